@@ -1,0 +1,6 @@
+use mathlib.Core.Path.{refl, sym, _∙_}
+use Rattle.drive.proofs.Mirrors.{told-kept}
+use Rattle.drive.proofs.reversed_drive.ReversedDrive.reach.Needs as need
+
+pub returns : need.returns
+returns g c = c .reach .ensures ∙ sym (told-kept (λ a. a .reach) (λ a. refl) (c .args .axis) (c .args .self .now .axis) (g .D·Drive .axes (c .args .self .now .below)))
