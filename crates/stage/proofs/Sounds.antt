@@ -12,6 +12,9 @@ use Rattle.stage.specs.declared.easing_axis.EasingAxis.{EasingAxis}
 use Rattle.stage.specs.Travel.{way}
 use Rattle.stage.specs.Easing.{asked}
 use Rattle.stage.specs.Eased.{easing-axis}
+use Rattle.stage.specs.declared.kind.AxisKind.{AxisKind}
+use Rattle.stage.specs.declared.kind.AxisKind.the-variants.{Whole, Easing}
+use Rattle.stage.specs.Kinds.{kind-axis}
 use Rattle.stage.proofs.Steps.{toward-fair}
 use Prim.Native.Nat.{_/_}
 
@@ -46,3 +49,7 @@ easing-sound a =
       unpowered = a .unpowered;
       fair = λ p t q hp ht. toward-fair p t (asked (a .ease) (way p t));
     }
+
+pub kind-sound : (a : AxisKind) → SoundAxis (kind-axis a)
+kind-sound (Whole a) = whole-sound a
+kind-sound (Easing a) = easing-sound a
