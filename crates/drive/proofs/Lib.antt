@@ -1,1 +1,4 @@
+pub mod Numbers
 pub mod Mirrors
+pub mod Lasts
+pub mod Waits

@@ -1,2 +1,4 @@
 pub mod Model
 pub mod Mirror
+pub mod Calls
+pub mod Settle

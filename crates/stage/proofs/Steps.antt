@@ -1,31 +1,21 @@
 -- A step stays on the way, and leads nearer.
-use mathlib.Core.Path.{_≡_, refl, sym, _∙_, ap}
-use mathlib.Core.Bool.{true, false, cond}
-use Prim.Native.Nat.{ℕ, zero, suc, _≤_, _<_, min, max}
+use mathlib.Core.Path.{_≡_, sym, _∙_, ap}
+use Prim.Native.Nat.{ℕ}
 use native.Mathlib.Omega.{arith}
 use mir.Syntax.{w32, w64}
 use mir.Val.{toZ, ofZ, SFits}
 use borrow.Author.Needs.{needs}
-use lib.IntN.{ℤ, pos, negsuc, negℤ, natAbs, _+ℤ_, _-ℤ_}
+use lib.IntN.{ℤ, pos, _+ℤ_, _-ℤ_}
 use lib.Signed.{ltZ, _<ℤ_, _≤ℤ_}
 use Rattle.std.proofs.shelf.Signed.{ints, by-ltZ, toZ-ofZ}
-use Rattle.std.proofs.shelf.Tests.{cond-true, cond-false, cases-lt}
+use Rattle.std.proofs.shelf.Tests.{cond-true, cond-false}
 use Rattle.drive.specs.Model.{Fair}
+use Rattle.drive.proofs.Numbers.{size-up, size-down}
 use Rattle.stage.specs.Travel.{way, held, toward}
 
 -- a sum in 64 bits that fits 32 is itself there
 pub narrowed : (z y : ℤ) → SFits w32 y → z ≡ y → toZ w32 (ofZ w32 (toZ w64 (ofZ w64 z))) ≡ y
 narrowed z y fits e = ap (λ x. toZ w32 (ofZ w32 (toZ w64 (ofZ w64 x)))) e ∙ ap (λ x. toZ w32 (ofZ w32 x)) (toZ-ofZ w64 y (search (needs, ints))) ∙ toZ-ofZ w32 y fits
-
--- the size of a number, with its sign
-size-up : (d : ℤ) → pos 0 ≤ℤ d → pos (natAbs d) ≡ d
-size-up (pos n) h = refl
-size-up (negsuc n) h = absurd (h .le)
-
-size-down : (d : ℤ) → d ≤ℤ pos 0 → pos (natAbs d) ≡ pos 0 -ℤ d
-size-down (pos zero) h = refl
-size-down (pos (suc n)) h = absurd (omega (arith, ints))
-size-down (negsuc n) h = omega (arith, ints)
 
 -- the way left, and a step held to it
 pub way-up : (p t : ℤ) → p ≤ℤ t → pos (way p t) ≡ t -ℤ p
@@ -63,27 +53,3 @@ module _ (p t : ℤ) (n : ℕ) where
 
   pub toward-fair : Fair p (toward p t n) t
   toward-fair = by-ltZ p t (λ h. rw (← up-is h) (up-fair h)) (λ h. rw (← down-is h) (down-fair h))
-
--- ---- what a fair step keeps
-
--- a number's size, as bounds
-inside-is : (z : ℤ) (n : ℕ) → natAbs z ≤ n → (negℤ (pos n) ≤ℤ z) × (z ≤ℤ pos n)
-inside-is (pos m) n h = (omega (arith, ints), omega (arith, ints))
-inside-is (negsuc m) n h = (omega (arith, ints), omega (arith, ints))
-
-is-inside : (z : ℤ) (n : ℕ) → negℤ (pos n) ≤ℤ z → z ≤ℤ pos n → natAbs z ≤ n
-is-inside (pos m) n l h = omega (arith, ints)
-is-inside (negsuc m) n l h = omega (arith, ints)
-
--- it stays within the reach
-pub fair-within : (p r t : ℤ) (n : ℕ) → Fair p r t → natAbs p ≤ n → natAbs t ≤ n → natAbs r ≤ n
-fair-within p r t n f hp ht =
-    let bp = inside-is p n hp in
-    let bt = inside-is t n ht in
-    by-ltZ p t
-    (λ l. let k = f .up (omega (arith, ints)) in is-inside r n (omega (arith, ints)) (omega (arith, ints)))
-    (λ g. let k = f .down g in is-inside r n (omega (arith, ints)) (omega (arith, ints)))
-
--- it leaves an axis that rests where it is
-pub fair-rests : (p r t : ℤ) → Fair p r t → t ≡ p → t ≡ r
-fair-rests p r t f e = let k = f .up (omega (arith, ints)) in omega (arith, ints, k)

@@ -4,7 +4,7 @@ use mir.Syntax.{w32}
 use mir.Val.{SFits}
 use Rattle.std.proofs.shelf.Signed.{toZ-ofZ}
 use Rattle.stage.specs.Eased.{i32-of}
-use Rattle.stage.proofs.Steps.{fair-within, fair-rests}
+use Rattle.drive.proofs.Numbers.{fair-within, fair-rests}
 use Rattle.stage.proofs.easing_stage.EasingAxisStage.tick.Needs as need
 
 -- the new position is whole and within the reach, and without power the axis stays where it is

@@ -3,7 +3,7 @@ use mathlib.Core.Path.{_∙_, sym}
 use mir.Syntax.{w32}
 use mir.Val.{SFits}
 use Rattle.std.proofs.shelf.Signed.{toZ-ofZ}
-use Rattle.stage.proofs.Steps.{fair-within, fair-rests}
+use Rattle.drive.proofs.Numbers.{fair-within, fair-rests}
 use Rattle.stage.proofs.whole_stage.WholeAxisStage.tick.Needs as need
 
 -- the new position is within the reach, and without power the axis stays where it is
