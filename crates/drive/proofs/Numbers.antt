@@ -5,12 +5,8 @@ use Prim.Native.Nat.{ℕ, zero, suc, _≤_, _<_}
 use native.Mathlib.Omega.{arith}
 use lib.IntN.{ℤ, pos, negsuc, negℤ, natAbs, _-ℤ_}
 use lib.Signed.{_≤ℤ_, _<ℤ_}
-use lib.Dec.{eqb}
-use mir.Syntax.{w32}
-use mir.Val.{ofZ, SFits}
 use Rattle.std.proofs.shelf.Signed.{ints, by-ltZ}
 use Rattle.std.proofs.shelf.Tests.{true≢false}
-use Rattle.std.proofs.shelf.Ways.{tells}
 use Rattle.drive.specs.Model.{Fair, same}
 
 -- a size, with its sign
@@ -31,13 +27,6 @@ inside-is (negsuc m) n h = (omega (arith, ints), omega (arith, ints))
 pub is-inside : (z : ℤ) (n : ℕ) → negℤ (pos n) ≤ℤ z → z ≤ℤ pos n → natAbs z ≤ n
 is-inside (pos m) n l h = omega (arith, ints)
 is-inside (negsuc m) n l h = omega (arith, ints)
-
--- the code compares bits
-pub same-bits : (p t : ℤ) → SFits w32 p → SFits w32 t → eqb (ofZ w32 p) (ofZ w32 t) ≡ same p t
-same-bits (pos m) (pos n) fp ft = grind (arith, tells)
-same-bits (pos m) (negsuc n) fp ft = let a = fp .sfits in let b = ft .sfits in grind (arith, tells)
-same-bits (negsuc m) (pos n) fp ft = let a = fp .sfits in let b = ft .sfits in grind (arith, tells)
-same-bits (negsuc m) (negsuc n) fp ft = let a = fp .sfits in let b = ft .sfits in grind (arith, tells)
 
 -- ---- a fair new position
 

@@ -10,35 +10,21 @@ use Rattle.std.specs.declared.result.Result.{Result}
 use Rattle.std.specs.declared.result.Result.the-variants.{Ok, Err}
 use Rattle.std.specs.shelf.Lists.{All}
 use Rattle.drive.specs.declared.refusal.DriveRefusal.{DriveRefusal}
-use Rattle.drive.specs.declared.refusal.DriveRefusal.the-variants.{NoSuchAxis}
 use Rattle.drive.specs.Model.{Axis, SoundAxis, Sound, ask, ask-axis, at-rest, tick-axes}
-use Rattle.drive.specs.Settle.{rests, settling, settled, way-left, Arrives}
+use Rattle.drive.specs.Settle.{rests, same-answers, settling, settled, way-left, Arrives}
 use Rattle.drive.proofs.Numbers.{fair-nearer}
 use Rattle.drive.proofs.Lasts.{ticks-sound}
 
 -- ---- whether an axis rests
 
--- two answers of one axis
-module _ {R S V : Type 0} (f : Axis → R) (g : Axis → S) (h : R → S → V) where
-  ask-both : (i : ℕ) (xs : List Axis) (r : R) (s : S) → ask f i xs ≡ Ok r → ask g i xs ≡ Ok s → Ok (h r s) ≡ ask (λ a. h (f a) (g a)) i xs
-  ask-both i [] r s er es = let z : _≡_ {A = ℕ} 0 1 = cc in absurd (omega arith)
-  ask-both zero (a ∷ xs) r s er es = let kr : f a ≡ r = cc in let ks : g a ≡ s = cc in ap (λ x. Ok (h x s)) (sym kr) ∙ ap (λ y. Ok (h (f a) y)) (sym ks)
-  ask-both (suc i) (a ∷ xs) r s er es = ask-both i xs r s er es
+asks-both : (i : ℕ) (xs : List Axis) → same-answers (ask (λ a. a .position) i xs) (ask (λ a. a .target) i xs) ≡ ask at-rest i xs
+asks-both i [] = refl
+asks-both zero (a ∷ xs) = refl
+asks-both (suc i) (a ∷ xs) = asks-both i xs
 
-  pub told-both : (n : ℕ) (xs : List Axis) (r : R) (s : S) → ask-axis f n xs ≡ Ok r → ask-axis g n xs ≡ Ok s → Ok (h r s) ≡ ask-axis (λ a. h (f a) (g a)) n xs
-  told-both zero xs r s er es = let z : _≡_ {A = ℕ} 0 1 = cc in absurd (omega arith)
-  told-both (suc i) xs r s er es = ask-both i xs r s er es
-
--- an axis that is not there answers no question
-module _ {R S : Type 0} (f : Axis → R) (g : Axis → S) where
-  ask-refused : (i : ℕ) (xs : List Axis) (e : DriveRefusal) → ask f i xs ≡ Err e → Err e ≡ ask g i xs
-  ask-refused i [] e h = let k : e ≡ NoSuchAxis = cc in ap Err k
-  ask-refused zero (a ∷ xs) e h = let z : _≡_ {A = ℕ} 0 1 = cc in absurd (omega arith)
-  ask-refused (suc i) (a ∷ xs) e h = ask-refused i xs e h
-
-  pub told-refused : (n : ℕ) (xs : List Axis) (e : DriveRefusal) → ask-axis f n xs ≡ Err e → Err e ≡ ask-axis g n xs
-  told-refused zero xs e h = let k : e ≡ NoSuchAxis = cc in ap Err k
-  told-refused (suc i) xs e h = ask-refused i xs e h
+pub told-both : (n : ℕ) (xs : List Axis) → same-answers (ask-axis (λ a. a .position) n xs) (ask-axis (λ a. a .target) n xs) ≡ rests n xs
+told-both zero xs = refl
+told-both (suc i) xs = asks-both i xs
 
 -- ---- arriving
 

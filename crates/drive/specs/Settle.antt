@@ -3,15 +3,21 @@ use mathlib.Core.Bool.{Bool, true, false}
 use mathlib.Core.List.{List}
 use mathlib.Core.Path.{_≡_}
 use Prim.Native.Nat.{ℕ, zero, suc, _≤_}
-use lib.IntN.{natAbs, _-ℤ_}
+use lib.IntN.{ℤ, natAbs, _-ℤ_}
 use Rattle.std.specs.declared.result.Result.{Result}
 use Rattle.std.specs.declared.result.Result.the-variants.{Ok, Err}
 use Rattle.drive.specs.declared.refusal.DriveRefusal.{DriveRefusal}
-use Rattle.drive.specs.Model.{Axis, ask-axis, at-rest, tick-axes}
+use Rattle.drive.specs.Model.{Axis, ask-axis, same, at-rest, tick-axes}
 
 -- whether the axis numbered n rests
 abbrev pub rests : ℕ → List Axis → Result Bool DriveRefusal
 rests n axes = ask-axis at-rest n axes
+
+-- whether two answers name one position; a refusal is passed up, the first of the two
+abbrev pub same-answers : Result ℤ DriveRefusal → Result ℤ DriveRefusal → Result Bool DriveRefusal
+same-answers (Ok p) (Ok t) = Ok (same p t)
+same-answers (Ok p) (Err e) = Err e
+same-answers (Err e) t = Err e
 
 -- ticks until the axis numbered n rests, k more at most, where some are made already: how many are made then, and the axes
 abbrev pub settling : ℕ → ℕ → Result Bool DriveRefusal → ℕ → List Axis → Result ℕ DriveRefusal × List Axis

@@ -1,4 +1,4 @@
-// A modelled drive: what every drive means, and a drive with one axis reversed.
+// A modelled drive: what every drive means, a drive with one axis reversed, and ticks until an axis rests.
 mod drive;
 mod laws;
 mod profile;
@@ -6,6 +6,7 @@ mod refusal;
 mod reversed;
 mod reversed_drive;
 mod waiting;
+mod words;
 
 pub use drive::Drive;
 pub use laws::lasting;

@@ -1,15 +1,20 @@
 ghost use mathlib.Core.Path.{_≡_};
-ghost use Rattle.drive.specs.Settle.{Arrives, rests, settled};
+ghost use Rattle.drive.specs.Settle.{Arrives, rests, same-answers, settled};
 use crate::drive::Drive;
 use crate::refusal::DriveRefusal;
+
+// Whether two answers name one position, unless one of them is a refusal.
+fn same_position(position: Result<i32, DriveRefusal>, target: Result<i32, DriveRefusal>) -> Result<bool, DriveRefusal>
+    ensures { λ r. ⌜ r ≡ same-answers position target ⌝ }
+{
+    Ok(position? == target?)
+}
 
 // Whether an axis rests: its position is its target.
 pub fn at_rest<D: Drive>(drive: &D, axis: usize) -> Result<bool, DriveRefusal>
     ensures { λ r. ⌜ r ≡ rests axis (D·Drive .axes (now (drive .entry))) ⌝ }
 {
-    let position = drive.position(axis)?;
-    let target = drive.target(axis)?;
-    Ok(position == target)
+    same_position(drive.position(axis), drive.target(axis))
 }
 
 // Ticks until the axis rests, `limit` times at most, and answers how many ticks were made.

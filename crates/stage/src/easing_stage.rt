@@ -47,9 +47,9 @@ pub impl Stage for EasingAxis as EasingAxisStage {
     }
 
     fn power_off(&mut self) -> Result<(), DriveRefusal> {
+        let stopped = self.stop();
         self.powered = false;
-        self.target = self.position;
-        Ok(())
+        stopped
     }
 
     fn start(&mut self, target: i32, profile: Profile) -> Result<(), DriveRefusal> {

@@ -1,7 +1,7 @@
 ghost use mathlib.Core.Path.{_≡_};
 ghost use Rattle.stage.specs.Eased.{easing-axis};
 ghost use Rattle.stage.specs.Easing.{easing-travel};
-ghost use Rattle.stage.specs.Stages.{fresh-axis};
+ghost use Rattle.stage.specs.Stages.{fresh-axis, nearest};
 ghost use Rattle.stage.specs.Whole.{travel-by, whole-axis};
 use crate::ease::Ease;
 use crate::easing_axis::EasingAxis;
@@ -17,8 +17,15 @@ const NO_PROFILE: Profile = Profile {
     deceleration: 0,
 };
 
+// A reach out of range acts as the nearest in range.
+fn reach_taken(reach: u32) -> u32
+    ensures { λ r. ⌜ r ≡ nearest 1 2000000000 reach ⌝ }
+{
+    reach.max(1).min(2_000_000_000)
+}
+
 impl WholeAxis {
-    // An axis without power at position 0. A reach out of range acts as the nearest in range, 1 to 2,000,000,000.
+    // An axis without power at position 0.
     pub fn new(rule: Rule, reach: u32) -> Self
         ensures { λ r. ⌜ whole-axis r ≡ fresh-axis (travel-by rule) reach ⌝ }
     {
@@ -28,13 +35,13 @@ impl WholeAxis {
             position: 0,
             target: 0,
             profile: NO_PROFILE,
-            reach: reach.max(1).min(2_000_000_000),
+            reach: reach_taken(reach),
         }
     }
 }
 
 impl EasingAxis {
-    // The same for an easing axis.
+    // An axis without power at position 0.
     pub fn new(ease: Ease, reach: u32) -> Self
         ensures { λ r. ⌜ easing-axis r ≡ fresh-axis (easing-travel ease) reach ⌝ }
     {
@@ -45,7 +52,7 @@ impl EasingAxis {
             position: origin,
             target: origin,
             profile: NO_PROFILE,
-            reach: reach.max(1).min(2_000_000_000),
+            reach: reach_taken(reach),
         }
     }
 }
