@@ -14,12 +14,19 @@ use stage::WholeAxis;
 
 // A count out of range acts as the nearest in range, 2 to 12; a reach out of range as the nearest in range, 1 to 2,000,000,000.
 impl Bank {
+    // A count out of range acts as the nearest in range.
+    fn count_taken(count: usize) -> usize
+        ensures { λ r. ⌜ r ≡ nearest 2 12 count ⌝ }
+    {
+        count.max(2).min(12)
+    }
+
     // The drive that has so many copies of one axis.
     fn of(axis: AxisKind, count: usize) -> Self
         ensures { λ r. ⌜ bank-axes r ≡ replicate (nearest 2 12 count) (kind-axis axis) ⌝ }
     {
         Bank {
-            count: count.max(2).min(12),
+            count: Bank::count_taken(count),
             axes: [axis; 12],
         }
     }

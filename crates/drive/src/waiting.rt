@@ -4,7 +4,10 @@ use crate::drive::Drive;
 use crate::refusal::DriveRefusal;
 
 // Whether two answers name one position, unless one of them is a refusal.
-fn same_position(position: Result<i32, DriveRefusal>, target: Result<i32, DriveRefusal>) -> Result<bool, DriveRefusal>
+fn same_position(
+    position: Result<i32, DriveRefusal>,
+    target: Result<i32, DriveRefusal>,
+) -> Result<bool, DriveRefusal>
     ensures { λ r. ⌜ r ≡ same-answers position target ⌝ }
 {
     Ok(position? == target?)

@@ -19,10 +19,26 @@ const REACH: u32 = 2_000_000_000;
 
 // The easing drives: a stride and a share in range, and one of each that acts as 1.
 fn show_easing(rt: &impl Print) -> io::Result<()> {
-    show_tour(rt, "easing by a stride of 250000", &mut Bank::easing(3, REACH, Ease::Stride(250_000.0)))?;
-    show_tour(rt, "easing by a stride of 0.5, which acts as 1", &mut Bank::easing(3, REACH, Ease::Stride(0.5)))?;
-    show_tour(rt, "easing by a share of 0.1", &mut Bank::easing(3, REACH, Ease::Share(0.1)))?;
-    show_tour(rt, "easing by a share of 1.5, which acts as 1", &mut Bank::easing(3, REACH, Ease::Share(1.5)))
+    show_tour(
+        rt,
+        "easing by a stride of 250000",
+        &mut Bank::easing(3, REACH, Ease::Stride(250_000.0)),
+    )?;
+    show_tour(
+        rt,
+        "easing by a stride of 0.5, which acts as 1",
+        &mut Bank::easing(3, REACH, Ease::Stride(0.5)),
+    )?;
+    show_tour(
+        rt,
+        "easing by a share of 0.1",
+        &mut Bank::easing(3, REACH, Ease::Share(0.1)),
+    )?;
+    show_tour(
+        rt,
+        "easing by a share of 1.5, which acts as 1",
+        &mut Bank::easing(3, REACH, Ease::Share(1.5)),
+    )
 }
 
 // The position of an axis, seen from here and by the drive below.
@@ -49,7 +65,11 @@ fn show_reversed(rt: &impl Print) -> io::Result<()> {
 fn show_made(rt: &impl Print, count: usize, reach: u32) -> io::Result<()> {
     let made = Bank::instant(count, reach);
     match made.reach(1) {
-        Ok(taken) => println!(rt, "count {count}, reach {reach}: {} axes of reach {taken}", made.axis_count()),
+        Ok(taken) => println!(
+            rt,
+            "count {count}, reach {reach}: {} axes of reach {taken}",
+            made.axis_count()
+        ),
         Err(refusal) => println!(rt, "count {count}, reach {reach}: {}", refusal.word()),
     }
 }

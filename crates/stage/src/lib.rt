@@ -19,8 +19,6 @@ pub use kind::AxisKind;
 pub use kind_stage::AxisKindStage;
 pub use stage::Stage;
 pub use state::AxisState;
-pub use travel::held;
-pub use travel::toward;
 pub use whole::Rule;
 pub use whole::WholeAxis;
 pub use whole_stage::WholeAxisStage;

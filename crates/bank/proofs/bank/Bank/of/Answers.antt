@@ -7,4 +7,4 @@ use Rattle.bank.proofs.Arrays.{view-equal}
 use Rattle.bank.proofs.bank.Bank.of.Needs as need
 
 pub returns : need.returns
-returns c = view-equal kind-axis (c .min .result) 12 (c .args .axis) (omega arith) ∙ ap (λ n. replicate n (kind-axis (c .args .axis))) (omega arith)
+returns c = view-equal kind-axis (c .count-taken .result) 12 (c .args .axis) (omega arith) ∙ ap (λ n. replicate n (kind-axis (c .args .axis))) (omega arith)
