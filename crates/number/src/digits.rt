@@ -1,0 +1,31 @@
+// Runs of digits.
+ghost use mathlib.Core.Path.{_≡_};
+ghost use mathlib.Core.Bool.{true};
+ghost use Prim.Native.Nat.{_^_, _<_, _≤_};
+ghost use lib.ListN.{length};
+ghost use Rattle.number.specs.Digits.{digits-before, all-digits, number};
+
+/// How many digits a text begins with.
+pub fn digits_before(text: &[u8]) -> usize
+    ensures count { λ r. ⌜ r ≡ digits-before (now (text .entry)) ⌝ }
+    ensures within { λ r. ⌜ r ≤ length (now (text .entry)) ⌝ }
+{
+    let mut n = 0;
+    while n < text.len() && text[n].is_ascii_digit() {
+        n += 1;
+    }
+    n
+}
+
+/// The number that up to nine digits write.
+pub(crate) fn short_number(digits: &[u8]) -> u64
+    requires { ⌜ length (now digits) ≤ 9 ⌝ ∗ ⌜ all-digits (now digits) ≡ true ⌝ }
+    ensures value { λ r. ⌜ r ≡ number (now (digits .entry)) ⌝ }
+    ensures bound { λ r. ⌜ r < 10 ^ length (now (digits .entry)) ⌝ }
+{
+    let mut n = 0;
+    for c in digits {
+        n = n * 10 + u64::from(*c - b'0');
+    }
+    n
+}
