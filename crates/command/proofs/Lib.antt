@@ -1,0 +1,5 @@
+pub mod Blanks
+pub mod Parted
+pub mod Turns
+pub mod Capped
+pub mod Examples
