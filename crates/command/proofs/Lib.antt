@@ -1,5 +1,6 @@
 pub mod Blanks
 pub mod Parted
 pub mod Turns
+pub mod Placing
 pub mod Capped
 pub mod Examples

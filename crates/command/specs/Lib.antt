@@ -3,3 +3,4 @@ pub mod Lines
 pub mod Mnemonics
 pub mod Commands
 pub mod Views
+pub mod Laws

@@ -4,6 +4,7 @@ ghost use Prim.Native.Nat.{_+_, _^_, _<_, _≤_};
 ghost use lib.ListN.{length};
 ghost use Rattle.std.specs.Options.{Cases as BySome};
 ghost use Rattle.command.specs.Commands.{in-front, commands-of};
+ghost use Rattle.command.specs.Laws.{Commands-placed};
 ghost use Rattle.command.specs.Views.{seen-text, to-come, comes};
 use crate::bytes::before;
 use crate::bytes::trim;
@@ -17,6 +18,7 @@ impl<'a> Commands<'a> {
     pub fn of(line: &'a [u8]) -> Commands<'a>
         ensures all { λ r. ⌜ to-come r ≡ commands-of (now (line .entry)) ⌝ }
         ensures left { λ r. ⌜ now (r .rest) ≡ now (line .entry) ⌝ }
+        ensures placed { λ _. ⌜ Commands-placed (now (line .entry)) ⌝ }
     {
         Commands {
             rest: line,

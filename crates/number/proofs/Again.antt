@@ -158,11 +158,12 @@ read-fixed k n a six is low =
     )
 
 plain-signed : (xs : List ℕ) (a : ℕ) → digit (getD xs 0 0) ≡ true → magnitude-of xs ≡ Some a → signed-of xs ≡ Some (pos a)
+unfolding signed-of
 plain-signed xs a d e = grind (arith, tells)
 
 -- a text with a minus or without, read as its worth
 pub read-signed : (minus : Bool) (k n a : ℕ) → k ≤ 6 → n * 10 ^ (6 - k) ≡ a → a < 1000000000000000 → read-decimal (when minus 45 ++ fixed k n) ≡ Some (cond minus (negℤ (pos a)) (pos a))
-unfolding read-decimal
+unfolding signed-of
 read-signed minus k n a six is low =
     let back = read-fixed k n a six is low in
     elim minus as (λ b. cond (ltb 17 (length (when b 45 ++ fixed k n))) None (signed-of (when b 45 ++ fixed k n)) ≡ Some (cond b (negℤ (pos a)) (pos a))) [

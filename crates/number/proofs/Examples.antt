@@ -4,24 +4,24 @@ use mathlib.Core.List.{List, [], _∷_}
 use lib.Chars.{codes}
 use lib.IntN.{pos, negsuc}
 use Rattle.std.specs.declared.option.Option.the-variants.{Some, None}
-use Rattle.number.specs.Decimals.{magnitude-of, read-decimal}
+use Rattle.number.specs.Decimals.{magnitude-of, signed-of, read-decimal}
 use Rattle.number.specs.Texts.{whole-text, fixed, shortened, setting-text, position-text, list-text}
 use Rattle.number.specs.Writing.{write}
 
 minus-ten : read-decimal (codes "-10") ≡ Some (negsuc 9999999)
-unfolding read-decimal magnitude-of
+unfolding signed-of magnitude-of
 minus-ten = refl
 
 half : read-decimal (codes ".5") ≡ Some (pos 500000)
-unfolding read-decimal magnitude-of
+unfolding signed-of magnitude-of
 half = refl
 
 bare-point : read-decimal (codes "-.") ≡ None
-unfolding read-decimal magnitude-of
+unfolding signed-of magnitude-of
 bare-point = refl
 
 largest : read-decimal (codes "+999999999.999999") ≡ Some (pos 999999999999999)
-unfolding read-decimal magnitude-of
+unfolding signed-of magnitude-of
 largest = refl
 
 three : setting-text (negsuc 2999999) ≡ codes "-3"

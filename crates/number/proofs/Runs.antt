@@ -10,7 +10,7 @@ use Rattle.std.proofs.shelf.Ways.{tells}
 use Rattle.number.specs.Digits.{digit, all-digits, number-on, number}
 use Rattle.std.specs.declared.option.Option.the-variants.{Some, None}
 use Rattle.std.proofs.shelf.Tests.{eq-eqb}
-use Rattle.number.specs.Decimals.{worth}
+use Rattle.number.specs.Decimals.{fits-decimal, worth}
 use Rattle.std.proofs.shelf.Lists.{at-drop-more, at-drop-all}
 use native.Mathlib.Nat.{pow-suc, pow-le-pow-right, mul-le-mul, lt-of-lt-of-le}
 use native.Mathlib.Numerals.{add-one, one-add}
@@ -45,6 +45,9 @@ short r k m h le = omega (arith, pow-le-pow-right {n = 10} (omega arith) le)
 
 pub small : (a b : ℕ) → a < 1000000 → b ≤ 1000000 → a * b ≤ 1000000000000
 small a b h le = let x : a ≤ 1000000 = omega arith in mul-le-mul x le
+
+pub allowed-parts : (ws fs : List ℕ) → fits-decimal ws fs ≡ true → (length ws ≤ 9) × (length fs ≤ 6) × (0 < length ws + length fs)
+allowed-parts ws fs e = grind (arith, tells)
 
 pub worth-some : (ws fs : List ℕ) (r : ℕ) → length ws ≤ 9 → length fs ≤ 6 → 0 < length ws + length fs → r ≡ number-on 0 ws * 1000000 + number-on 0 fs * 10 ^ (6 - length fs) → Some r ≡ worth ws fs
 worth-some ws fs r a b s e = grind (arith, tells)

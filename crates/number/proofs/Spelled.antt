@@ -1,10 +1,10 @@
 -- The texts by the steps that write them.
 use mathlib.Core.Path.{_≡_, refl, sym, ap, _∙_}
-use mathlib.Core.Bool.{Bool, cond, _&&_}
+use mathlib.Core.Bool.{Bool, true, false, cond, _&&_}
 use mathlib.Core.List.{List, [], _∷_, _++_}
 use Prim.Native.Nat.{ℕ, zero, suc, min, _-_, _+_, _^_, _/_, _%_, _<_, _≤_}
 use native.Mathlib.Omega.{arith}
-use lib.Dec.{ltb}
+use lib.Dec.{eqb, ltb}
 use lib.IntN.{ℤ, pos, natAbs}
 use lib.ListN.{length}
 use lib.Signed.{ltZ}
@@ -12,7 +12,7 @@ use Rattle.std.specs.Written.{decimal}
 use Rattle.std.proofs.shelf.Decimals.{Spells, decimal-digit, decimal-step, length-decimal-le, decimal-from-spells}
 use borrow.Author.Needs.{needs}
 use Rattle.std.proofs.shelf.Lists.{append-assoc, append-nil, length-append}
-use Rattle.std.proofs.shelf.Tests.{cond-true, cond-false, eq-eqb, ne-eqb}
+use Rattle.std.proofs.shelf.Tests.{cond-true, cond-false, eq-eqb, ne-eqb, and-parts, ltb-true, lt-ltb}
 use Rattle.number.specs.Texts.{digits-of, whole-text, last-digits, point, fixed, when, shortened, setting-text, rounded, position-text}
 
 spells : Spells digits-of
@@ -23,8 +23,8 @@ pub whole-is : (n : ℕ) → n < 2 ^ 64 → whole-text n ≡ decimal n
 unfolding whole-text
 whole-is n h = decimal-from-spells digits-of spells 20 n h (length-decimal-le 20 n (omega arith) (omega arith) h)
 
-pub whole-digit : (n : ℕ) → n < 10 → whole-text n ≡ (48 + n) ∷ []
-whole-digit n h = whole-is n (omega arith) ∙ decimal-digit n h
+pub whole-digit : (n : ℕ) → n < 10 → whole-text n ≡ (48 + n % 10) ∷ []
+whole-digit n h = let e : 48 + n ≡ 48 + n % 10 = omega arith in whole-is n (omega arith) ∙ decimal-digit n h ∙ ap (λ d. d ∷ []) e
 
 pub whole-step : (n : ℕ) → 10 ≤ n → n < 2 ^ 64 → whole-text n ≡ whole-text (n / 10) ++ ((48 + n % 10) ∷ [])
 whole-step n h fits = whole-is n fits ∙ decimal-step n h fits ∙ ap (λ l. l ++ ((48 + n % 10) ∷ [])) (sym (whole-is (n / 10) (omega arith)))
@@ -52,22 +52,18 @@ fixed-some k n u h e =
     ∙ ap (λ v. whole-text (n / v) ++ (46 ∷ last-digits k (n % v))) e
     ∙ ap (λ l. whole-text (n / 10 ^ k) ++ l) (sym (cond-false _ _ _ (ne-eqb k 0 (λ z. omega arith))))
 
-pub shortened-more : (k n : ℕ) → 0 < k → n % 10 ≡ 0 → shortened (k - 1) (n / 10) ≡ shortened k n
+-- a zero at the end is left out, and nothing else
+pub shortened-more : (k n : ℕ) → (ltb 0 k && eqb (n % 10) 0) ≡ true → (shortened (k - 1) (n / 10) ≡ shortened k n) × (0 < k)
 unfolding shortened
-shortened-more zero n h e = absurd (omega arith)
-shortened-more (suc k) n h e =
+shortened-more zero n e = absurd (omega (arith, ltb-true 0 0 (and-parts (ltb 0 0) (eqb (n % 10) 0) e .0)))
+shortened-more (suc k) n e =
     let back : suc k - 1 ≡ k = omega arith in
-    ap (λ j. shortened j (n / 10)) back ∙ sym (cond-true _ _ _ (eq-eqb (n % 10) 0 e))
+    (ap (λ j. shortened j (n / 10)) back ∙ sym (cond-true _ _ _ (and-parts (ltb 0 (suc k)) (eqb (n % 10) 0) e .1)), omega arith)
 
-pub shortened-none : (k n : ℕ) → (n % 10 ≡ 0 → ⊥) → shortened k n ≡ (k, n)
+pub shortened-ends : (k n : ℕ) → (ltb 0 k && eqb (n % 10) 0) ≡ false → shortened k n ≡ (k, n)
 unfolding shortened
-shortened-none zero n h = refl
-shortened-none (suc k) n h = cond-false _ _ _ (ne-eqb (n % 10) 0 h)
-
-pub shortened-zero : (k n : ℕ) → k ≤ 0 → shortened k n ≡ (k, n)
-unfolding shortened
-shortened-zero zero n h = refl
-shortened-zero (suc k) n h = absurd (omega arith)
+shortened-ends zero n e = refl
+shortened-ends (suc k) n e = cond-false _ _ _ (ap (λ b. b && eqb (n % 10) 0) (sym (lt-ltb 0 (suc k) (omega arith))) ∙ e)
 
 pub setting-is : (z : ℤ) (b : Bool) (m k n : ℕ) → b ≡ ltZ z (pos 0) → m ≡ natAbs z → (k, n) ≡ shortened 6 m → when b 45 ++ fixed k n ≡ setting-text z
 unfolding setting-text

@@ -5,10 +5,11 @@ use mathlib.Core.List.{List, [], _∷_, _++_}
 use Prim.Native.Nat.{ℕ, zero, suc, min, _-_, _+_, _<_, _≤_}
 use native.Mathlib.Omega.{arith}
 use native.Mathlib.Numerals.{add-one}
+use lib.Dec.{ltb}
 use lib.ListN.{length, set, take, drop}
 use Rattle.std.proofs.shelf.Lists.{append-nil, append-assoc, length-append, length-take, length-take-le, length-drop, take-append-drop, take-append-le, take-all, take-at, drop-at, drop-all, drop-drop, set-split}
-use Rattle.std.proofs.shelf.Tests.{cases-lt}
-use Rattle.number.specs.Writing.{fitting, write}
+use Rattle.std.proofs.shelf.Tests.{cases-lt, cond-both, ltb-true, ltb-false}
+use Rattle.number.specs.Writing.{fitting, put-byte, write}
 
 -- where there is room
 pub write-room : (was : List ℕ) (at : ℕ) (bytes : List ℕ) → at + length bytes ≤ length was → write was at bytes ≡ (at + length bytes, take at was ++ (bytes ++ drop (at + length bytes) was))
@@ -36,6 +37,13 @@ write-nothing was at =
 
 pub write-one : (was : List ℕ) (at b : ℕ) → at < length was → (at + 1, set was at b) ≡ write was at (b ∷ [])
 write-one was at b h = sym (write-room was at (b ∷ []) (omega arith) ∙ (λ i. (at + 1, (ap (λ k. take at was ++ b ∷ drop k was) (add-one at) ∙ sym (set-split was at b h)) i)))
+
+-- one byte
+pub put-is : (was : List ℕ) (at b : ℕ) → put-byte was at b ≡ write was at (b ∷ [])
+put-is was at b =
+    cond-both (ltb at (length was)) (at + 1, set was at b) (at, was) (λ p. p ≡ write was at (b ∷ []))
+    (λ t. write-one was at b (ltb-true at (length was) t))
+    (λ t. sym (write-full was at (b ∷ []) (ltb-false at (length was) t)))
 
 take-past : (xs ys : List ℕ) (k : ℕ) → take (length xs + k) (xs ++ ys) ≡ xs ++ take k ys
 take-past [] ys k = let e : 0 + k ≡ k = omega arith in ap (λ j. take j ys) e

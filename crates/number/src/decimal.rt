@@ -6,7 +6,7 @@ ghost use lib.IntN.{pos, negℤ};
 ghost use lib.ListN.{length};
 ghost use Rattle.std.specs.Options.{mapped, Cases as BySome};
 ghost use Rattle.number.specs.Digits.{all-digits};
-ghost use Rattle.number.specs.Decimals.{fraction-of, worth, magnitude-of, read-decimal};
+ghost use Rattle.number.specs.Decimals.{fraction-of, fits-decimal, worth, magnitude-of, signed-of, read-decimal};
 use crate::digits::digits_before;
 use crate::digits::short_number;
 
@@ -42,13 +42,20 @@ fn fraction(after: &[u8]) -> Option<&[u8]>
     }
 }
 
+/// Whether a decimal can have these digits in front of the point and behind it.
+fn allowed(whole: &[u8], fraction: &[u8]) -> bool
+    ensures { λ r. ⌜ r ≡ fits-decimal (now (whole .entry)) (now (fraction .entry)) ⌝ }
+{
+    whole.len() <= 9 && fraction.len() <= 6 && whole.len() + fraction.len() > 0
+}
+
 /// What the digits in front of the point and behind it are worth, in millionths.
 fn in_millionths(whole: &[u8], fraction: &[u8]) -> Option<u64>
     requires { ⌜ all-digits (now whole) ≡ true ⌝ ∗ ⌜ all-digits (now fraction) ≡ true ⌝ }
     ensures value { λ r. ⌜ r ≡ worth (now (whole .entry)) (now (fraction .entry)) ⌝ }
     ensures bound { λ r. ⌜ BySome r (Unit {0}) (λ n. n < 2 ^ 60) ⌝ }
 {
-    if whole.len() > 9 || fraction.len() > 6 || whole.len() + fraction.len() == 0 {
+    if !allowed(whole, fraction) {
         return None;
     }
     Some(short_number(whole) * 1_000_000 + short_number(fraction) * last_place(fraction.len()))
@@ -72,6 +79,17 @@ fn negated(magnitude: u64) -> i64
     -(magnitude as i64)
 }
 
+/// A decimal of any length, in millionths.
+fn signed(text: &[u8]) -> Option<i64>
+    ensures { λ r. ⌜ r ≡ signed-of (now (text .entry)) ⌝ }
+{
+    match text {
+        [b'-', rest @ ..] => Some(negated(magnitude(rest)?)),
+        [b'+', rest @ ..] => Some(magnitude(rest)? as i64),
+        _ => Some(magnitude(text)? as i64),
+    }
+}
+
 /// A decimal, in millionths: a sign or none, up to nine digits, and a point with up to six digits or none.
 pub fn read_decimal(text: &[u8]) -> Option<i64>
     ensures { λ r. ⌜ r ≡ read-decimal (now (text .entry)) ⌝ }
@@ -79,9 +97,5 @@ pub fn read_decimal(text: &[u8]) -> Option<i64>
     if text.len() > LONGEST {
         return None;
     }
-    match text {
-        [b'-', rest @ ..] => Some(negated(magnitude(rest)?)),
-        [b'+', rest @ ..] => Some(magnitude(rest)? as i64),
-        _ => Some(magnitude(text)? as i64),
-    }
+    signed(text)
 }

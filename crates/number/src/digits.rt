@@ -10,11 +10,11 @@ pub fn digits_before(text: &[u8]) -> usize
     ensures count { λ r. ⌜ r ≡ digits-before (now (text .entry)) ⌝ }
     ensures within { λ r. ⌜ r ≤ length (now (text .entry)) ⌝ }
 {
-    let mut n = 0;
-    while n < text.len() && text[n].is_ascii_digit() {
-        n += 1;
+    let mut count = 0;
+    while count < text.len() && text[count].is_ascii_digit() {
+        count += 1;
     }
-    n
+    count
 }
 
 /// The number that up to nine digits write.

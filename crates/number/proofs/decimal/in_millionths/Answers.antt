@@ -1,19 +1,28 @@
+use mathlib.Core.Path.{_≡_, sym}
+use mathlib.Core.Bool.{true}
 use native.Mathlib.Omega.{arith}
 use Prim.Native.Nat.{_+_, _*_, _^_, _<_, _≤_}
-use Rattle.std.proofs.shelf.Ways.{tells}
-use Rattle.number.proofs.Runs.{short, small, worth-some}
+use lib.ListN.{length}
+use Rattle.number.proofs.Runs.{short, small, worth-some, allowed-parts}
 use Rattle.number.proofs.decimal.in_millionths.Needs as need
+
+pub short-number-requires : need.short-number-requires
+short-number-requires c κs =
+    let so = allowed-parts (c .args .whole .now) (c .args .fraction .now) (sym (c .if-not-allowed .ensures tt)) in
+    (so .0, c .pre .0)
 
 pub add-result : need.add-result
 add-result c =
-    let w = short _ _ 9 (c .short-number .ensures .bound) (omega arith) in
-    let f = short _ _ 6 (c .short-number-2 .ensures .bound) (omega arith) in
+    let so = allowed-parts (c .args .whole .now) (c .args .fraction .now) (sym (c .if-not-allowed .ensures tt)) in
+    let w = short _ _ 9 (c .short-number .ensures .bound) (so .0) in
+    let f = short _ _ 6 (c .short-number-2 .ensures .bound) (so .1) in
     let p = small _ _ f (c .last-place .ensures .bound) in
     omega arith
 
 pub returns : need.returns
 returns c =
-    let w = short _ _ 9 (c .short-number .ensures .bound) (omega arith) in
-    let f = short _ _ 6 (c .short-number-2 .ensures .bound) (omega arith) in
+    let so = allowed-parts (c .args .whole .now) (c .args .fraction .now) (sym (c .if-not-allowed .ensures tt)) in
+    let w = short _ _ 9 (c .short-number .ensures .bound) (so .0) in
+    let f = short _ _ 6 (c .short-number-2 .ensures .bound) (so .1) in
     let p = small _ _ f (c .last-place .ensures .bound) in
-    record { value = worth-some (c .args .whole .now) (c .args .fraction .now) _ (omega arith) (omega arith) (omega arith) (cc); bound = omega arith }
+    record { value = worth-some (c .args .whole .now) (c .args .fraction .now) _ (so .0) (so .1) (so .2) (cc); bound = omega arith }

@@ -5,8 +5,8 @@ use Rattle.std.specs.shelf.Lists.{leading}
 use Rattle.number.specs.Digits.{digit}
 use Rattle.number.proofs.digits.digits_before.Given as given
 
-abbrev pub Inv-loop-n : given.InvT-loop-n
-Inv-loop-n l = (l .n ≤ length (l .text)) × (l .n + leading digit (drop (l .n) (l .text)) ≡ leading digit (l .text))
+abbrev pub Inv-loop-count : given.InvT-loop-count
+Inv-loop-count l = (l .count ≤ length (l .text)) × (l .count + leading digit (drop (l .count) (l .text)) ≡ leading digit (l .text))
 
-abbrev pub μ-loop-n : given.MeasureT-loop-n
-μ-loop-n l = length (l .text) - l .n
+abbrev pub μ-loop-count : given.MeasureT-loop-count
+μ-loop-count l = length (l .text) - l .count

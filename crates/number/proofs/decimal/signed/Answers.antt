@@ -7,34 +7,30 @@ use mathlib.Core.Path.{_≡_}
 use lib.IntN.{pos}
 use mir.Val.{toZ}
 use mir.Syntax.{w64}
-use Rattle.number.specs.Decimals.{read-decimal}
-use Rattle.number.proofs.decimal.read_decimal.Needs as need
-
-pub returns-then-text-gt-LONGEST : need.returns-then-text-gt-LONGEST
-unfolding read-decimal
-returns-then-text-gt-LONGEST c = search needs
+use Rattle.number.specs.Decimals.{signed-of}
+use Rattle.number.proofs.decimal.signed.Needs as need
 
 pub returns-in-Break-magnitude : need.returns-in-Break-magnitude
-unfolding read-decimal
+unfolding signed-of
 returns-in-Break-magnitude c = let e = take-rest (c .args .text .now) 1 in grind (arith, tells)
 
 pub returns-in-Break-magnitude-2 : need.returns-in-Break-magnitude-2
-unfolding read-decimal
+unfolding signed-of
 returns-in-Break-magnitude-2 c = let e = take-rest (c .args .text .now) 1 in grind (arith, tells)
 
 pub returns-in-Break-magnitude-3 : need.returns-in-Break-magnitude-3
-unfolding read-decimal
+unfolding signed-of
 returns-in-Break-magnitude-3 c = search needs
 
 pub returns-in-Continue-magnitude : need.returns-in-Continue-magnitude
-unfolding read-decimal
+unfolding signed-of
 returns-in-Continue-magnitude c =
     let e = take-rest (c .args .text .now) 1 in
     let m = c .in-Continue-magnitude .ensures tt .value in
     grind (arith, tells)
 
 pub returns-in-Continue-magnitude-2 : need.returns-in-Continue-magnitude-2
-unfolding read-decimal
+unfolding signed-of
 returns-in-Continue-magnitude-2 c =
     let e = take-rest (c .args .text .now) 1 in
     let n = c .in-Continue-magnitude-2 .field-0 in
@@ -43,5 +39,5 @@ returns-in-Continue-magnitude-2 c =
     grind (arith, tells)
 
 pub returns-in-Continue-magnitude-3 : need.returns-in-Continue-magnitude-3
-unfolding read-decimal
+unfolding signed-of
 returns-in-Continue-magnitude-3 c = search needs
