@@ -22,9 +22,9 @@ unfolding commands-from in-front
 none-left c [] e = refl
 none-left c (x ∷ xs) e = absurd (omega arith)
 
-pub turn-more : (c n : ℕ) (xs bs after : List ℕ) → n ≡ leading (apart 59) xs → bs ≡ take n xs → after ≡ drop n xs → 0 < length after → commands-from (c, xs) ≡ in-front (c, bs) (commands-from (c + (n + 1), take (length after - 1) (drop 1 after)))
+pub turn-more : {k : ℕ} (c n : ℕ) (xs bs after : List ℕ) → n ≡ leading (apart 59) xs → bs ≡ take n xs → after ≡ drop n xs → 0 < length after → k ≡ c + (n + 1) → commands-from (c, xs) ≡ in-front (c, bs) (commands-from (k, take (length after - 1) (drop 1 after)))
 unfolding commands-from
-turn-more c n xs bs after e be ae h = ap all-commands (cut-more 59 c n xs bs after e be ae h)
+turn-more c n xs bs after e be ae h ke = ap all-commands (cut-more 59 c n xs bs after e be ae h) ∙ ap (λ j. in-front (c, bs) (commands-from (j, take (length after - 1) (drop 1 after)))) (sym ke)
 
 pub turn-last : (c n : ℕ) (xs bs after : List ℕ) → n ≡ leading (apart 59) xs → bs ≡ take n xs → after ≡ drop n xs → length after ≡ 0 → commands-from (c, xs) ≡ in-front (c, bs) (commands-from (c, after))
 unfolding commands-from in-front
@@ -54,9 +54,9 @@ body-is {ls} {m} {q} {t} c o b h le me qe te =
     (λ i. record { column = c; prefix = o; letters = letters i; mnemonic = name i; question = question-of (rest i); parameters = parameters-of (rest i) })
 
 -- parameters, by their parts
-pub give-more : {t : Part} (c n : ℕ) (xs bs after : List ℕ) → n ≡ leading (apart 44) xs → bs ≡ take n xs → after ≡ drop n xs → 0 < length after → t ≡ bare (c, bs) → parameters-from (c, xs) ≡ field is-parameter t ∷ parameters-from (c + (n + 1), take (length after - 1) (drop 1 after))
+pub give-more : {k : ℕ} {t : Part} (c n : ℕ) (xs bs after : List ℕ) → n ≡ leading (apart 44) xs → bs ≡ take n xs → after ≡ drop n xs → 0 < length after → t ≡ bare (c, bs) → k ≡ c + (n + 1) → parameters-from (c, xs) ≡ field is-parameter t ∷ parameters-from (k, take (length after - 1) (drop 1 after))
 unfolding parameters-from
-give-more c n xs bs after e be ae h te = ap (map (λ q. field is-parameter (bare q))) (cut-more 44 c n xs bs after e be ae h) ∙ ap (λ q. field is-parameter q ∷ parameters-from (c + (n + 1), take (length after - 1) (drop 1 after))) (sym te)
+give-more {k} {t} c n xs bs after e be ae h te ke = ap (map (λ q. field is-parameter (bare q))) (cut-more 44 c n xs bs after e be ae h) ∙ (λ i. field is-parameter (sym te i) ∷ parameters-from (sym ke i, take (length after - 1) (drop 1 after)))
 
 pub give-last : {t : Part} (c n : ℕ) (xs bs after : List ℕ) → n ≡ leading (apart 44) xs → bs ≡ take n xs → after ≡ drop n xs → length after ≡ 0 → t ≡ bare (c, bs) → parameters-from (c, xs) ≡ field is-parameter t ∷ []
 unfolding parameters-from

@@ -1,10 +1,12 @@
 -- What the reader's values mean.
 use mathlib.Core.List.{List, [], _∷_}
-use Prim.Native.Nat.{ℕ}
+use Prim.Native.Nat.{ℕ, _+_}
 use denote.Ref.{RefT}
+use lib.ListN.{length}
 use Rattle.std.specs.Options.{mapped}
 use Rattle.std.specs.declared.option.Option.{Option}
 use Rattle.std.specs.declared.option.Option.the-variants.{Some, None}
+use Rattle.command.specs.Held.{left-of}
 use Rattle.command.specs.Lines.{Part}
 use Rattle.command.specs.Commands.{Field, field, is-prefix, is-mnemonic, is-parameter, is-question, Command, question-of, parameters-of, parameters-from, commands-from}
 use Rattle.command.specs.declared.text.Text.{Text}
@@ -45,6 +47,10 @@ said c = record { column = c .column; prefix = mapped seen (c .prefix); letters 
 abbrev pub to-come : Commands → List Command
 to-come s = commands-from (s .column, s .rest .now)
 
+-- the column behind the line
+abbrev pub end-of : Commands → ℕ
+end-of s = s .column + length (s .rest .now)
+
 -- a command that comes, and those behind it; none where none comes
 abbrev pub comes : Option taken.Command → List Command → List Command
 comes None cs = []
@@ -58,6 +64,10 @@ given-from c (Some x) = parameters-from (c, x .now)
 -- the parameters still to be given
 abbrev pub to-give : Parameters → List Field
 to-give s = given-from (s .column) (s .rest)
+
+-- the column behind the parameters, and one more while any are left
+abbrev pub limit-of : Parameters → ℕ
+limit-of s = s .column + left-of (s .rest)
 
 -- a parameter that is given, and those behind it; none where none is
 abbrev pub gives : Option lent.Field → List Field → List Field

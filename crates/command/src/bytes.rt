@@ -20,13 +20,44 @@ pub(crate) fn before(text: &[u8], separator: u8) -> usize
     text.len()
 }
 
+/// How many bytes stand before the semicolon that ends a command.
+pub(crate) fn before_semicolon(text: &[u8]) -> usize
+    ensures count { λ r. ⌜ r ≡ leading (apart 59) (now (text .entry)) ⌝ }
+    ensures within { λ r. ⌜ r ≤ length (now (text .entry)) ⌝ }
+{
+    before(text, b';')
+}
+
+/// How many bytes stand before the comma that ends a parameter.
+pub(crate) fn before_comma(text: &[u8]) -> usize
+    ensures count { λ r. ⌜ r ≡ leading (apart 44) (now (text .entry)) ⌝ }
+    ensures within { λ r. ⌜ r ≤ length (now (text .entry)) ⌝ }
+{
+    before(text, b',')
+}
+
+/// The column behind so many bytes and a separator.
+pub(crate) fn column_behind(column: usize, count: usize) -> usize
+    requires { ⌜ column + count ≤ 2 ^ 63 ⌝ }
+    ensures { λ r. ⌜ r ≡ column + (count + 1) ⌝ }
+{
+    column + count + 1
+}
+
+/// Whether a byte is a blank.
+fn is_blank(byte: u8) -> bool
+    ensures { λ r. ⌜ r ≡ blank byte ⌝ }
+{
+    byte == b' '
+}
+
 /// How many blanks a text begins with.
 fn blanks_before(text: &[u8]) -> usize
     ensures count { λ r. ⌜ r ≡ leading blank (now (text .entry)) ⌝ }
     ensures within { λ r. ⌜ r ≤ length (now (text .entry)) ⌝ }
 {
     let mut n = 0;
-    while n < text.len() && text[n] == b' ' {
+    while n < text.len() && is_blank(text[n]) {
         n += 1;
     }
     n

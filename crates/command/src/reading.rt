@@ -33,7 +33,7 @@ fn take_prefix<'a>(text: Text<'a>) -> (Option<Field<'a>>, Text<'a>)
     requires { ⌜ text .column + length (now (text .bytes)) ≤ 2 ^ 63 ⌝ }
     ensures prefix { λ r. ⌜ mapped seen (r .0) ≡ prefix-of (seen-text (text .entry)) ⌝ }
     ensures body { λ r. ⌜ seen-text (r .1) ≡ body-of (seen-text (text .entry)) ⌝ }
-    ensures room { λ r. ⌜ r .1 .column + length (now (r .1 .bytes)) ≤ 2 ^ 63 ⌝ }
+    ensures within { λ r. ⌜ r .1 .column + length (now (r .1 .bytes)) ≤ text .entry .column + length (now (text .entry .bytes)) ⌝ }
 {
     let n = digits_before(text.bytes);
     let (digits, after) = text.bytes.split_at(n);
@@ -55,7 +55,8 @@ fn take_prefix<'a>(text: Text<'a>) -> (Option<Field<'a>>, Text<'a>)
 fn read_body<'a>(column: usize, prefix: Option<Field<'a>>, body: Text<'a>) -> Command<'a>
     requires { ⌜ body .column + length (now (body .bytes)) ≤ 2 ^ 63 ⌝ }
     ensures command { λ r. ⌜ said r ≡ made column (mapped seen (prefix .entry)) (seen-text (body .entry)) (bare (past 2 (seen-text (body .entry)))) ⌝ }
-    ensures room { λ r. ⌜ r .rest .column + length (now (r .rest .bytes)) ≤ 2 ^ 63 ⌝ }
+    ensures column { λ r. ⌜ r .column ≡ column ⌝ }
+    ensures within { λ r. ⌜ r .rest .column + length (now (r .rest .bytes)) ≤ body .entry .column + length (now (body .entry .bytes)) ⌝ }
 {
     let [a, b, rest @ ..] = body.bytes else {
         return Command {
@@ -89,7 +90,8 @@ fn read_body<'a>(column: usize, prefix: Option<Field<'a>>, body: Text<'a>) -> Co
 pub(crate) fn read_command<'a>(text: Text<'a>) -> Command<'a>
     requires { ⌜ text .column + length (now (text .bytes)) ≤ 2 ^ 63 ⌝ }
     ensures command { λ r. ⌜ said r ≡ command-of (seen-text (text .entry)) ⌝ }
-    ensures room { λ r. ⌜ r .rest .column + length (now (r .rest .bytes)) ≤ 2 ^ 63 ⌝ }
+    ensures column { λ r. ⌜ r .column ≡ text .entry .column ⌝ }
+    ensures within { λ r. ⌜ r .rest .column + length (now (r .rest .bytes)) ≤ text .entry .column + length (now (text .entry .bytes)) ⌝ }
 {
     let (prefix, body) = take_prefix(text);
     read_body(text.column, prefix, body)

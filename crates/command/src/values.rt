@@ -7,8 +7,9 @@ ghost use Rattle.std.specs.Options.{mapped, Cases as BySome};
 ghost use Rattle.number.specs.Digits.{number};
 ghost use Rattle.command.specs.Held.{left-of};
 ghost use Rattle.command.specs.Commands.{prefix-number, capped};
-ghost use Rattle.command.specs.Views.{seen, said, to-give, gives};
-use crate::bytes::before;
+ghost use Rattle.command.specs.Views.{seen, text-of, said, to-give, limit-of, gives};
+use crate::bytes::before_comma;
+use crate::bytes::column_behind;
 use crate::bytes::trim;
 use crate::command::Command;
 use crate::parameters::Parameters;
@@ -34,10 +35,8 @@ impl<'a> Command<'a> {
     pub fn prefix_number(&self) -> Option<u32>
         ensures { λ r. ⌜ r ≡ mapped capped (prefix-number (said (now (self .entry)))) ⌝ }
     {
-        match self.prefix {
-            Some(prefix) => Some(capped_number(prefix.text().bytes)),
-            None => None,
-        }
+        let prefix = self.prefix?;
+        Some(capped_number(prefix.text().bytes))
     }
 
     /// The question, where the rest is a question mark and nothing else.
@@ -55,6 +54,7 @@ impl<'a> Command<'a> {
         requires { ⌜ now self .rest .column + length (now (now self .rest .bytes)) ≤ 2 ^ 63 ⌝ }
         ensures all { λ r. ⌜ to-give r ≡ said (now (self .entry)) .parameters ⌝ }
         ensures left { λ r. ⌜ left-of (r .rest) ≤ length (now (now (self .entry) .rest .bytes)) + 1 ⌝ }
+        ensures limit { λ r. ⌜ limit-of r ≤ now (self .entry) .rest .column + length (now (now (self .entry) .rest .bytes)) + 1 ⌝ }
     {
         let Text { bytes, column } = self.rest;
         match bytes {
@@ -71,10 +71,12 @@ impl<'a> Parameters<'a> {
     /// The next parameter, without the blanks around it, and possibly nothing.
     pub fn next_parameter(&mut self) -> Option<Field<'a>>
         ensures next { λ r. ⌜ to-give (now (self .entry)) ≡ gives r (to-give (now (self .exit))) ⌝ }
+        ensures within { λ r. ⌜ BySome r (Unit {0}) (λ f. text-of f .column + length (now (text-of f .bytes)) < limit-of (now (self .entry))) ⌝ }
+        ensures limit { λ _. ⌜ limit-of (now (self .exit)) ≤ limit-of (now (self .entry)) ⌝ }
         ensures less { λ r. ⌜ BySome r (Unit {0}) (λ _. left-of (now (self .exit) .rest) < left-of (now (self .entry) .rest)) ⌝ }
     {
         let rest = self.rest?;
-        let n = before(rest, b',');
+        let n = before_comma(rest);
         let (bytes, after) = rest.split_at(n);
         let text = trim(Text {
             bytes,
@@ -84,7 +86,7 @@ impl<'a> Parameters<'a> {
             self.rest = None;
             return Some(Field::Parameter(text));
         };
-        self.column += n + 1;
+        self.column = column_behind(self.column, n);
         self.rest = Some(more);
         Some(Field::Parameter(text))
     }

@@ -7,8 +7,8 @@ use Rattle.command.proofs.bytes.blanks_before.Needs as need
 pub loop-n-again : need.loop-n-again
 loop-n-again c = grind (arith, tells, leading-drop-yes)
 
-pub returns-else-text-n-eq32 : need.returns-else-text-n-eq32
-returns-else-text-n-eq32 c = grind (arith, tells, leading-drop-no)
+pub returns-else-is-blank : need.returns-else-is-blank
+returns-else-is-blank c = grind (arith, tells, leading-drop-no)
 
 pub returns-after-loop-n : need.returns-after-loop-n
 returns-after-loop-n c = grind (arith, leading-drop-all)

@@ -6,5 +6,6 @@ use Rattle.command.proofs.reading.read_command.Needs as need
 pub returns : need.returns
 returns c = record {
   command = command-is (seen-text (c .args .text)) (c .take-prefix .ensures .prefix) (c .take-prefix .ensures .body) (c .read-body .ensures .command);
-  room = search needs;
+  column = search needs;
+  within = search needs;
 }

@@ -15,7 +15,9 @@ returns-in-rest c =
     let none : length (c .split-at .result .1 .now) ≡ 0 = grind (arith, tells) in
     let was = c .in-Continue-rest .was tt in
     record {
-      next = ap (given-from (c .args .self .now .column)) was ∙ give-last _ _ _ _ _ (c .before-n .ensures .count) (c .split-at .ensures .front) (c .split-at .ensures .back) none (c .trim-text .ensures .part);
+      next = ap (given-from (c .args .self .now .column)) was ∙ give-last _ _ _ _ _ (c .before-comma-n .ensures .count) (c .split-at .ensures .front) (c .split-at .ensures .back) none (c .trim-text .ensures .part);
+      within = omega (arith, ap left-of was);
+      limit = omega (arith, ap left-of was);
       less = omega (arith, ap left-of was);
     }
 
@@ -25,6 +27,8 @@ returns c =
     let was = c .in-Continue-rest .was tt in
     let e = ap length (take-rest (c .split-at .result .1 .now) 1) ∙ length-drop 1 (c .split-at .result .1 .now) in
     record {
-      next = ap (given-from (c .args .self .now .column)) was ∙ give-more _ _ _ _ _ (c .before-n .ensures .count) (c .split-at .ensures .front) (c .split-at .ensures .back) some (c .trim-text .ensures .part);
+      next = ap (given-from (c .args .self .now .column)) was ∙ give-more _ _ _ _ _ (c .before-comma-n .ensures .count) (c .split-at .ensures .front) (c .split-at .ensures .back) some (c .trim-text .ensures .part) (c .column-behind-self .ensures);
+      within = omega (arith, ap left-of was);
+      limit = omega (arith, ap left-of was);
       less = omega (arith, ap left-of was);
     }
