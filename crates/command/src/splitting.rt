@@ -23,6 +23,7 @@ impl<'a> Commands<'a> {
     /// The commands of a line.
     pub fn of(line: &'a [u8]) -> Commands<'a>
         ensures all { λ r. ⌜ to-come r ≡ commands-of (now (line .entry)) ⌝ }
+        ensures left { λ r. ⌜ now (r .rest) ≡ now (line .entry) ⌝ }
         ensures end { λ r. ⌜ end-of r ≡ length (now (line .entry)) + 1 ⌝ }
         ensures placed { λ _. ⌜ Commands-placed (now (line .entry)) ⌝ }
     {

@@ -118,7 +118,7 @@ module _ (ws : List ℕ) (m k f : ℕ) (of : Digits-of m ws) (nine : length ws �
   read-parts = (λ i. and-then (fraction-of (back i)) (worth (front i))) ∙ fraction-then ws m k f (of .1) (of .2) nine six low
 
 -- to leave zeros out keeps the worth
-shortened-worth : (k n : ℕ) → k ≤ 6 → (shortened k n .0 ≤ k) × (shortened k n .1 * 10 ^ (6 - shortened k n .0) ≡ n * 10 ^ (6 - k))
+pub shortened-worth : (k n : ℕ) → k ≤ 6 → (shortened k n .0 ≤ k) × (shortened k n .1 * 10 ^ (6 - shortened k n .0) ≡ n * 10 ^ (6 - k))
 unfolding shortened
 shortened-worth zero n h = (omega arith, refl)
 shortened-worth (suc k) n h =
@@ -134,7 +134,7 @@ shortened-worth (suc k) n h =
     (λ t. (omega arith, refl))
 
 -- a number of units is worth its whole part and its fraction
-split-worth : (k n : ℕ) → k ≤ 6 → n / 10 ^ k * 1000000 + n % 10 ^ k * 10 ^ (6 - k) ≡ n * 10 ^ (6 - k)
+pub split-worth : (k n : ℕ) → k ≤ 6 → n / 10 ^ k * 1000000 + n % 10 ^ k * 10 ^ (6 - k) ≡ n * 10 ^ (6 - k)
 split-worth k n h =
     let e : k + (6 - k) ≡ 6 = omega arith in
     let six : 10 ^ k * 10 ^ (6 - k) ≡ 1000000 = sym (pow-add 10 k (6 - k)) ∙ ap (λ j. 10 ^ j) e in
@@ -152,7 +152,7 @@ read-fixed k n a six is low =
     let of = whole-digits q (omega arith) in
     let rest : n % 10 ^ k < 10 ^ k = mod-lt n (one-le-pow k 10 (omega arith)) in
     let tail : length (point k (n % 10 ^ k)) ≤ 7 = cond-both (eqb k 0) [] (46 ∷ last-digits k (n % 10 ^ k)) (λ l. length l ≤ 7) (λ t. omega arith) (λ t. omega (arith, length-last k (n % 10 ^ k))) in (
-      read-parts (whole-text q) q k (n % 10 ^ k) (of .0) (of .1) six rest ∙ ap Some all,
+      subst (λ x. magnitude-of (fixed k n) ≡ Some x) all (read-parts (whole-text q) q k (n % 10 ^ k) (of .0) (of .1) six rest),
       simp length-append (omega arith),
       leading-at digit (fixed k n) 0 (omega (arith, run (whole-text q) q k (n % 10 ^ k) (of .0) (of .1) six rest, of .0 .2)),
     )

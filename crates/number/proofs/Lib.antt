@@ -5,3 +5,4 @@ pub mod Examples
 pub mod Again
 pub mod Near
 pub mod Listed
+pub mod Lengths

@@ -8,27 +8,11 @@ ghost use Rattle.std.specs.Options.{mapped, Cases as BySome};
 ghost use Rattle.number.specs.Digits.{all-digits};
 ghost use Rattle.number.specs.Decimals.{fraction-of, fits-decimal, worth, magnitude-of, signed-of, read-decimal};
 use crate::digits::digits_before;
+use crate::digits::power_of_ten;
 use crate::digits::short_number;
 
 /// The most characters that a decimal has: a sign, nine digits, a point and six digits.
 const LONGEST: usize = 17;
-
-/// What the last of `n` digits behind the point is worth, in millionths.
-fn last_place(n: usize) -> u64
-    requires { ⌜ n ≤ 6 ⌝ }
-    ensures value { λ r. ⌜ r ≡ 10 ^ (6 - n) ⌝ }
-    ensures bound { λ r. ⌜ r ≤ 1000000 ⌝ }
-{
-    match n {
-        0 => 1_000_000,
-        1 => 100_000,
-        2 => 10_000,
-        3 => 1_000,
-        4 => 100,
-        5 => 10,
-        _ => 1,
-    }
-}
 
 /// The digits behind the point, of what follows the digits in front of it.
 fn fraction(after: &[u8]) -> Option<&[u8]>
@@ -58,7 +42,9 @@ fn in_millionths(whole: &[u8], fraction: &[u8]) -> Option<u64>
     if !allowed(whole, fraction) {
         return None;
     }
-    Some(short_number(whole) * 1_000_000 + short_number(fraction) * last_place(fraction.len()))
+    Some(
+        short_number(whole) * 1_000_000 + short_number(fraction) * power_of_ten(6 - fraction.len()),
+    )
 }
 
 /// A decimal without sign, in millionths.

@@ -29,3 +29,20 @@ pub(crate) fn short_number(digits: &[u8]) -> u64
     }
     n
 }
+
+/// Ten to a power up to the sixth.
+pub(crate) fn power_of_ten(k: usize) -> u64
+    requires { ⌜ k ≤ 6 ⌝ }
+    ensures value { λ r. ⌜ r ≡ 10 ^ k ⌝ }
+    ensures bound { λ r. ⌜ 0 < r ⌝ ∗ ⌜ r ≤ 1000000 ⌝ }
+{
+    match k {
+        0 => 1,
+        1 => 10,
+        2 => 100,
+        3 => 1_000,
+        4 => 10_000,
+        5 => 100_000,
+        _ => 1_000_000,
+    }
+}

@@ -9,6 +9,7 @@ ghost use lib.Signed.{ltZ};
 ghost use Rattle.number.specs.Writing.{write};
 ghost use Rattle.number.specs.Texts.{whole-text, last-digits, when, fixed, shortened, setting-text, rounded, position-text};
 ghost use Rattle.number.specs.Laws.{Setting-again, Position-again};
+use crate::digits::power_of_ten;
 use crate::writing::write_byte;
 use crate::writing::write_when;
 
@@ -39,23 +40,6 @@ fn write_digits(out: &mut [u8], at: usize, count: usize, n: u64) -> usize
     }
     let last = write_digits(out, at, count - 1, n / 10);
     write_byte(out, last, last_digit(n))
-}
-
-/// Ten to a power up to the sixth.
-fn power_of_ten(k: usize) -> u64
-    requires { ⌜ k ≤ 6 ⌝ }
-    ensures value { λ r. ⌜ r ≡ 10 ^ k ⌝ }
-    ensures bound { λ r. ⌜ 0 < r ⌝ ∗ ⌜ r ≤ 1000000 ⌝ }
-{
-    match k {
-        0 => 1,
-        1 => 10,
-        2 => 100,
-        3 => 1_000,
-        4 => 10_000,
-        5 => 100_000,
-        _ => 1_000_000,
-    }
 }
 
 /// Writes `n` units of the given decimal place.

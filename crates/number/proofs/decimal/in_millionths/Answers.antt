@@ -16,7 +16,7 @@ add-result c =
     let so = allowed-parts (c .args .whole .now) (c .args .fraction .now) (sym (c .if-not-allowed .ensures tt)) in
     let w = short _ _ 9 (c .short-number .ensures .bound) (so .0) in
     let f = short _ _ 6 (c .short-number-2 .ensures .bound) (so .1) in
-    let p = small _ _ f (c .last-place .ensures .bound) in
+    let p = small _ _ f (c .power-of-ten .ensures .bound .1) in
     omega arith
 
 pub returns : need.returns
@@ -24,5 +24,5 @@ returns c =
     let so = allowed-parts (c .args .whole .now) (c .args .fraction .now) (sym (c .if-not-allowed .ensures tt)) in
     let w = short _ _ 9 (c .short-number .ensures .bound) (so .0) in
     let f = short _ _ 6 (c .short-number-2 .ensures .bound) (so .1) in
-    let p = small _ _ f (c .last-place .ensures .bound) in
+    let p = small _ _ f (c .power-of-ten .ensures .bound .1) in
     record { value = worth-some (c .args .whole .now) (c .args .fraction .now) _ (so .0) (so .1) (so .2) (cc); bound = omega arith }
