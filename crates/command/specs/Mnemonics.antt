@@ -1,4 +1,5 @@
 -- The two letters that name a command.
+use mathlib.Core.Path.{_≡_}
 use mathlib.Core.Bool.{Bool, cond, _&&_}
 use Prim.Native.Nat.{ℕ}
 use lib.Dec.{eqb}
@@ -89,7 +90,12 @@ pick a b (m ∷ ms) = cond (eqb a (first m) && eqb b (second m)) (Some m) (pick 
 abbrev pub chosen : ℕ → ℕ → Option Mnemonic
 chosen a b = pick a b every
 
--- the same, shut, so that what calls it does not go through the table
+-- what two capitals name: the command that has these letters; nothing where no command has them
+abbrev pub Named : ℕ → ℕ → Option Mnemonic → Type 0
+Named a b None = (m : Mnemonic) → first m ≡ a → second m ≡ b → ⊥
+Named a b (Some m) = (first m ≡ a) × (second m ≡ b)
+
+-- what the table gives, shut, so that what calls it does not go through the table
 unfoldable pub capitals-name : ℕ → ℕ → Option Mnemonic
 capitals-name a b = chosen a b
 

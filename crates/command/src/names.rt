@@ -1,18 +1,21 @@
 // The mnemonics of the commands.
 ghost use mathlib.Core.Path.{_≡_};
-ghost use Rattle.command.specs.Mnemonics.{chosen, capitals-name, mnemonic-of};
+ghost use Rattle.std.specs.Text.{upper};
+ghost use Rattle.command.specs.Mnemonics.{chosen, Named, capitals-name, mnemonic-of};
 use crate::mnemonic::Mnemonic;
 
 /// The command that two letters name, small ones counting as capitals.
 pub fn mnemonic_of(a: u8, b: u8) -> Option<Mnemonic>
-    ensures { λ r. ⌜ r ≡ mnemonic-of a b ⌝ }
+    ensures name { λ r. ⌜ r ≡ mnemonic-of a b ⌝ }
+    ensures letters { λ r. ⌜ Named (upper a) (upper b) r ⌝ }
 {
     named_by_capitals(a.to_ascii_uppercase(), b.to_ascii_uppercase())
 }
 
 /// The command that two capitals name.
 fn named_by_capitals(a: u8, b: u8) -> Option<Mnemonic>
-    ensures { λ r. ⌜ r ≡ capitals-name a b ⌝ }
+    ensures name { λ r. ⌜ r ≡ capitals-name a b ⌝ }
+    ensures letters { λ r. ⌜ Named a b r ⌝ }
 {
     choose(a, b)
 }

@@ -14,7 +14,7 @@ pub returns : need.returns
 returns c =
     let long : 2 ≤ length (c .args .body .bytes .now) = grind (arith, tells) in
     record {
-      command = body-is (c .args .column) (mapped seen (c .args .prefix)) (seen-text (c .args .body)) long refl (c .mnemonic-of .ensures) (λ i. (c .args .body .column + 2, take-rest (c .args .body .bytes .now) 2 i)) (c .trim .ensures .part);
+      command = body-is (c .args .column) (mapped seen (c .args .prefix)) (seen-text (c .args .body)) long refl (c .mnemonic-of .ensures .name) (λ i. (c .args .body .column + 2, take-rest (c .args .body .bytes .now) 2 i)) (c .trim .ensures .part);
       column = refl;
       within = omega arith;
     }
