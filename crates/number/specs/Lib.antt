@@ -1,0 +1,5 @@
+pub mod Digits
+pub mod Decimals
+pub mod Writing
+pub mod Texts
+pub mod Laws
