@@ -33,6 +33,10 @@ row-there d n xs zero low high le = absurd (omega arith)
 row-there d n xs (suc k) low high le =
     let l : k < length (take n xs) = rw length-take-le (omega arith) in simp unary-clauses (nth-getD (take n xs) k d l ∙ ap Some (getD-take n xs k d (omega arith)))
 
+pub row-or-there : {X : Type 0} (d : X) (n : ℕ) (xs : List X) (k : ℕ) → 1 ≤ k → k ≤ n → n ≤ length xs → row-or d k (take n xs) ≡ getD xs (k - 1) d
+row-or-there d n xs zero low high le = absurd (omega arith)
+row-or-there d n xs (suc k) low high le = simp unary-clauses (getD-take n xs k d (omega arith))
+
 pub row-missing : {X : Type 0} (xs : List X) (k : ℕ) → false ≡ there k xs → row k xs ≡ None
 row-missing xs zero e = refl
 row-missing xs (suc k) e = nth-past xs k (grind (arith, tells))

@@ -1,6 +1,6 @@
 -- What is known of a group that was found in the desk's array: how it, and a change of it, shows in the model. Assumes nothing.
 use mathlib.Core.Path.{_≡_}
-use mathlib.Core.Bool.{true}
+use mathlib.Core.Bool.{true, false}
 use mathlib.Core.List.{map}
 use Prim.Native.Nat.{ℕ, _-_, _/_, _≤_}
 use lib.ListN.{set, take}
@@ -24,5 +24,6 @@ pub record Found (d : Desk) (n : ℕ) (g : Group) : Type 0 where
 
 -- and of one that is not there
 pub record Missing (d : Desk) (n : ℕ) : Type 0 where
+  pub not-there : there n (model-of d .groups) ≡ false
   pub free : group-at n (model-of d) ≡ free-group
   pub change : (f : GroupModel → GroupModel) → alter f n (model-of d .groups) ≡ model-of d .groups

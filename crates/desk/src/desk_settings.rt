@@ -3,7 +3,7 @@ ghost use mathlib.Core.Bool.{true, cond};
 ghost use Prim.Native.Nat.{_-_, _≤_};
 ghost use lib.ListN.{length, getD, set, take};
 ghost use Rattle.std.specs.declared.option.Option.the-variants.{Some, None};
-ghost use Rattle.desk.specs.Tables.{there, row, alter};
+ghost use Rattle.desk.specs.Tables.{there, row, row-or, alter};
 ghost use Rattle.desk.specs.Axes.{no-axis, short};
 ghost use Rattle.desk.specs.Desks.{model-of, velocity-set, acceleration-set, deceleration-set, left-set, right-set, digits-set};
 use crate::axis_settings::AxisSettings;
@@ -25,6 +25,7 @@ impl Desk {
         ensures change { λ r. ⌜ (r ≡ true → (f : AxisSettings → AxisSettings) → alter f axis (take (now (self .entry) .count) (now (self .entry) .axes)) ≡ take (now (self .entry) .count) (set (now (self .entry) .axes) (axis - 1) (f (getD (now (self .entry) .axes) (axis - 1) no-axis)))) ⌝ }
         ensures kept { λ r. ⌜ (r ≡ true → (y : AxisSettings) → y .digits ≤ 6 → short (set (now (self .entry) .axes) (axis - 1) y) ≡ true) ⌝ }
         ensures row { λ r. ⌜ row axis (model-of (now (self .entry)) .axes) ≡ cond r (Some (getD (now (self .entry) .axes) (axis - 1) no-axis)) None ⌝ }
+        ensures found { λ r. ⌜ row-or no-axis axis (model-of (now (self .entry)) .axes) ≡ cond r (getD (now (self .entry) .axes) (axis - 1) no-axis) no-axis ⌝ }
         ensures short { λ r. ⌜ (r ≡ true → getD (now (self .entry) .axes) (axis - 1) no-axis .digits ≤ 6) ⌝ }
     {
         if axis < 1 || axis > self.count {

@@ -1,6 +1,7 @@
 // What the console keeps besides its errors: the settings of the axes, and the groups.
 mod axis_settings;
 mod axis_settings_calls;
+mod desk_forming;
 mod desk_groups;
 mod desk_settings;
 mod desk_state;

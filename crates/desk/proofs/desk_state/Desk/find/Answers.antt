@@ -1,4 +1,4 @@
-use mathlib.Core.Path.{_≡_}
+use mathlib.Core.Path.{_≡_, sym}
 use mathlib.Core.Bool.{false}
 use native.Mathlib.Omega.{arith}
 use Rattle.std.proofs.shelf.Ways.{tells}
@@ -13,6 +13,7 @@ pub returns-then-group-lt1 : need.returns-then-group-lt1
 returns-then-group-lt1 c =
     let no′ : false ≡ there (c .args .group) (model-of (c .args .self .now) .groups) = grind (arith, tells, groups-length) in
     record {
+      not-there = sym no′;
       free = row-or-missing free-group (model-of (c .args .self .now) .groups) (c .args .group) no′;
       change = λ f. alter-missing f (model-of (c .args .self .now) .groups) (c .args .group) no′;
     }
