@@ -8,9 +8,9 @@ use lib.ListN.{length, getD, set, take}
 use Rattle.std.proofs.shelf.Lists.{length-map, length-take-le, map-set}
 use Rattle.std.proofs.shelf.Ways.{tells}
 use Rattle.desk.specs.declared.desk_state.Desk.{Desk}
-use Rattle.desk.specs.declared.group.Group.{Group}
+use Rattle.groups.specs.declared.group.Group.{Group}
 use Rattle.desk.specs.Tables.{there}
-use Rattle.desk.specs.Groups.{group-model, free-group}
+use Rattle.groups.specs.Groups.{group-model, free-group}
 use Rattle.desk.specs.Desks.{model-of, group-at}
 use Rattle.desk.specs.Found.{Found}
 use Rattle.desk.proofs.Changes.{alter-set, take-set-all, row-or-map}

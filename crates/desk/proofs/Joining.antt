@@ -15,20 +15,12 @@ use Rattle.setup.specs.declared.record.SetupRecord.{SetupRecord}
 use Rattle.setup.specs.Setups.{nth-record}
 use Rattle.drive.specs.declared.profile.Profile.{Profile}
 use Rattle.desk.specs.declared.axis_settings.AxisSettings.{AxisSettings}
-use Rattle.desk.specs.declared.group.Group.{Group}
 use Rattle.desk.specs.Tables.{row-or}
-use Rattle.desk.specs.Axes.{opened-axis, no-profile, short}
-use Rattle.desk.specs.Groups.{GroupModel, group-model, free-group, has, lesser, least, own-of, smallest-own}
+use Rattle.desk.specs.Axes.{opened-axis, short, own-of, smallest-own}
+use Rattle.groups.specs.Profiles.{no-profile, lesser, least}
+use Rattle.groups.specs.Groups.{GroupModel, free-group, has}
 use Rattle.desk.specs.Desks.{first-with}
 use Rattle.desk.proofs.Changes.{all-pass-set}
-
-pub has-more : (axis n : ℕ) (ms : List ℕ) (k : ℕ) → k < n → n ≤ length ms → has axis (drop k (take n ms)) ≡ eqb (getD ms k 0) axis || has axis (drop (k + 1) (take n ms))
-has-more axis n ms k lt le =
-    let l : k < length (take n ms) = rw length-take-le lt in
-    ap (has axis) (drop-more (take n ms) k 0 l) ∙ ap (λ m. eqb m axis || has axis (drop (k + 1) (take n ms))) (getD-take n ms k 0 lt)
-
-pub has-all : (axis n : ℕ) (ms : List ℕ) (k : ℕ) → n ≤ length ms → n ≤ k → has axis (drop k (take n ms)) ≡ false
-has-all axis n ms k le h = ap (has axis) (drop-all k (take n ms) (rw length-take-le h))
 
 -- the first group with an axis
 pub first-more : (axis k : ℕ) (gs : List GroupModel) → k < length gs → first-with axis (k + 1) (drop k gs) ≡ cond (has axis (row-or free-group (k + 1) gs .members)) (Some (k + 1)) (first-with axis (k + 1 + 1) (drop (k + 1) gs))

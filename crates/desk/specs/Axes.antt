@@ -1,6 +1,6 @@
 -- The settings of an axis, and how each is changed. Assumes nothing.
 use mathlib.Core.Bool.{Bool}
-use mathlib.Core.List.{List, []}
+use mathlib.Core.List.{List, [], _∷_, map}
 use Prim.Native.Nat.{ℕ}
 use lib.Dec.{leb}
 use lib.IntN.{ℤ, pos}
@@ -9,7 +9,9 @@ use Rattle.std.specs.shelf.Lawful.{all-pass}
 use Rattle.drive.specs.declared.profile.Profile.{Profile}
 use Rattle.setup.specs.declared.record.SetupRecord.{SetupRecord}
 use Rattle.setup.specs.Records.{text-length}
+use Rattle.groups.specs.Profiles.{no-profile, least}
 use Rattle.desk.specs.declared.axis_settings.AxisSettings.{AxisSettings}
+use Rattle.desk.specs.Tables.{row-or}
 
 -- the settings at the opening: the maxima as own figures, and 4 digits
 abbrev pub opened-axis : SetupRecord → AxisSettings
@@ -22,10 +24,6 @@ opened-axis r = record {
   own = record { velocity = r .«max_velocity»; acceleration = r .«max_acceleration»; deceleration = r .«max_acceleration» };
   digits = 4;
 }
-
--- no figures
-abbrev pub no-profile : Profile
-no-profile = record { velocity = 0; acceleration = 0; deceleration = 0 }
 
 -- what stands where there is no axis
 abbrev pub no-axis : AxisSettings
@@ -43,16 +41,6 @@ short axes = all-pass (λ a. leb (a .digits) 6) axes
 abbrev pub with-own : Profile → AxisSettings → AxisSettings
 with-own p a = record { name = a .name; «max_velocity» = a .«max_velocity»; «max_acceleration» = a .«max_acceleration»; left = a .left; right = a .right; own = p; digits = a .digits }
 
--- another figure of a profile
-abbrev pub velocity-in : ℕ → Profile → Profile
-velocity-in v p = record { velocity = v; acceleration = p .acceleration; deceleration = p .deceleration }
-
-abbrev pub acceleration-in : ℕ → Profile → Profile
-acceleration-in v p = record { velocity = p .velocity; acceleration = v; deceleration = p .deceleration }
-
-abbrev pub deceleration-in : ℕ → Profile → Profile
-deceleration-in v p = record { velocity = p .velocity; acceleration = p .acceleration; deceleration = v }
-
 -- another limit or number of digits, and the rest kept
 abbrev pub with-left : ℤ → AxisSettings → AxisSettings
 with-left z a = record { name = a .name; «max_velocity» = a .«max_velocity»; «max_acceleration» = a .«max_acceleration»; left = z; right = a .right; own = a .own; digits = a .digits }
@@ -62,3 +50,12 @@ with-right z a = record { name = a .name; «max_velocity» = a .«max_velocity»
 
 abbrev pub with-digits : ℕ → AxisSettings → AxisSettings
 with-digits n a = record { name = a .name; «max_velocity» = a .«max_velocity»; «max_acceleration» = a .«max_acceleration»; left = a .left; right = a .right; own = a .own; digits = n }
+
+-- the own profile of an axis, counted from 1
+abbrev pub own-of : List AxisSettings → ℕ → Profile
+own-of axes n = row-or no-axis n axes .own
+
+-- the first profile of a group: the smallest of the members' own
+abbrev pub smallest-own : List AxisSettings → List ℕ → Profile
+smallest-own axes [] = no-profile
+smallest-own axes (m ∷ ms) = least (own-of axes m) (map (own-of axes) ms)

@@ -14,8 +14,9 @@ use Rattle.setup.specs.declared.record.SetupRecord.{SetupRecord}
 use Rattle.desk.specs.declared.axis_settings.AxisSettings.{AxisSettings}
 use Rattle.desk.specs.declared.desk_state.Desk.{Desk}
 use Rattle.desk.specs.Tables.{there, row-or, alter}
-use Rattle.desk.specs.Axes.{opened-axis, with-own, velocity-in, acceleration-in, deceleration-in, with-left, with-right, with-digits}
-use Rattle.desk.specs.Groups.{GroupModel, group-model, free-group, with-profile, with-waypoints, has, smallest-own}
+use Rattle.desk.specs.Axes.{opened-axis, with-own, with-left, with-right, with-digits, smallest-own}
+use Rattle.groups.specs.Profiles.{velocity-in, acceleration-in, deceleration-in}
+use Rattle.groups.specs.Groups.{GroupModel, group-model, free-group, with-profile, with-waypoints, has}
 
 pub record DeskModel : Type 0 where
   pub axes : List AxisSettings

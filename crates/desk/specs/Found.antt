@@ -6,9 +6,9 @@ use Prim.Native.Nat.{ℕ, _-_, _/_, _≤_}
 use lib.ListN.{set, take}
 use Rattle.queue.specs.Waypoints.{waypoints}
 use Rattle.desk.specs.declared.desk_state.Desk.{Desk}
-use Rattle.desk.specs.declared.group.Group.{Group}
+use Rattle.groups.specs.declared.group.Group.{Group}
 use Rattle.desk.specs.Tables.{there, alter}
-use Rattle.desk.specs.Groups.{GroupModel, group-model, members-of, free-group}
+use Rattle.groups.specs.Groups.{GroupModel, group-model, members-of, free-group}
 use Rattle.desk.specs.Desks.{model-of, group-at}
 
 pub record Found (d : Desk) (n : ℕ) (g : Group) : Type 0 where

@@ -6,8 +6,8 @@ ghost use lib.ListN.{length};
 ghost use Rattle.std.specs.declared.option.Option.the-variants.{Some, None};
 ghost use Rattle.desk.specs.Desks.{model-of, formed, group-of};
 use crate::desk_state::Desk;
-use crate::group::Group;
-use crate::members::Members;
+use groups::Group;
+use groups::Members;
 use queue::Route;
 
 impl Desk {
@@ -18,7 +18,7 @@ impl Desk {
         let Some(g) = self.find(group) else {
             return false;
         };
-        if g.members.size != 0 || !self.can_join(members) {
+        if g.members.count() != 0 || !self.can_join(members) {
             return false;
         }
         let Some(all) = Members::new(members) else {

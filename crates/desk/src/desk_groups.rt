@@ -5,13 +5,13 @@ ghost use lib.ListN.{length};
 ghost use Rattle.std.specs.declared.option.Option.the-variants.{Some, None};
 ghost use Rattle.queue.specs.Waypoints.{shown};
 ghost use Rattle.desk.specs.Tables.{there};
-ghost use Rattle.desk.specs.Groups.{members-of};
+ghost use Rattle.groups.specs.Groups.{members-of};
 ghost use Rattle.desk.specs.Desks.{model-of, group-at, group-velocity-set, group-acceleration-set, group-deceleration-set, dissolved, waypoint-queued, waypoint-taken, waypoints-emptied};
 ghost use Rattle.desk.specs.Found.{Found, Missing};
 use crate::desk_state::Desk;
-use crate::group::Group;
-use crate::members::Members;
 use drive::Profile;
+use groups::Group;
+use groups::Members;
 use queue::Waypoint;
 
 impl Desk {
@@ -19,7 +19,7 @@ impl Desk {
         ensures value { λ r. ⌜ r ≡ length (model-of (now (self .entry)) .groups) ⌝ }
         ensures few { λ r. ⌜ r ≤ 6 ⌝ }
     {
-        self.count / 2
+        self.sizes() / 2
     }
 
     // The group with that number, counted from 1.
@@ -74,7 +74,7 @@ impl Desk {
         let Some(mut g) = self.find(group) else {
             return false;
         };
-        if g.members.size == 0 {
+        if g.members.count() == 0 {
             return false;
         }
         g.profile.velocity = velocity;
@@ -88,7 +88,7 @@ impl Desk {
         let Some(mut g) = self.find(group) else {
             return false;
         };
-        if g.members.size == 0 {
+        if g.members.count() == 0 {
             return false;
         }
         g.profile.acceleration = acceleration;
@@ -102,7 +102,7 @@ impl Desk {
         let Some(mut g) = self.find(group) else {
             return false;
         };
-        if g.members.size == 0 {
+        if g.members.count() == 0 {
             return false;
         }
         g.profile.deceleration = deceleration;
@@ -117,7 +117,7 @@ impl Desk {
         let Some(g) = self.find(group) else {
             return false;
         };
-        if g.members.size == 0 {
+        if g.members.count() == 0 {
             return false;
         }
         self.groups[group - 1] = Group::free();
@@ -132,7 +132,7 @@ impl Desk {
         let Some(mut g) = self.find(group) else {
             return false;
         };
-        if g.members.size == 0 || g.members.size != positions.len() {
+        if g.members.count() == 0 || g.members.count() != positions.len() {
             return false;
         }
         let Some(w) = Waypoint::new(positions) else {

@@ -1,6 +1,6 @@
 ghost use mathlib.Core.Path.{_≡_};
 ghost use mathlib.Core.Bool.{true, cond};
-ghost use Prim.Native.Nat.{_-_, _≤_};
+ghost use Prim.Native.Nat.{_-_, _/_, _≤_};
 ghost use lib.ListN.{length, getD, set, take};
 ghost use Rattle.std.specs.declared.option.Option.the-variants.{Some, None};
 ghost use Rattle.desk.specs.Tables.{there, row, row-or, alter};
@@ -10,11 +10,20 @@ use crate::axis_settings::AxisSettings;
 use crate::desk_state::Desk;
 
 impl Desk {
+    // The number of the axes, which is twice that of the groups, or one more.
+    pub(crate) fn sizes(&self) -> usize
+        ensures axes { λ r. ⌜ r ≡ length (model-of (now (self .entry)) .axes) ⌝ }
+        ensures groups { λ r. ⌜ r / 2 ≡ length (model-of (now (self .entry)) .groups) ⌝ }
+        ensures few { λ r. ⌜ r ≤ 12 ⌝ }
+    {
+        self.count
+    }
+
     pub fn axis_count(&self) -> usize
         ensures value { λ r. ⌜ r ≡ length (model-of (now (self .entry)) .axes) ⌝ }
         ensures few { λ r. ⌜ r ≤ 12 ⌝ }
     {
-        self.count
+        self.sizes()
     }
 
     // Whether there is such an axis, counted from 1. Where there is, a change of its settings shows in the table as a change
@@ -37,7 +46,7 @@ impl Desk {
     // The settings of an axis, counted from 1.
     pub fn axis(&self, axis: usize) -> Option<AxisSettings>
         ensures value { λ r. ⌜ r ≡ row axis (model-of (now (self .entry)) .axes) ⌝ }
-        ensures digits { λ r. ⌜ elim r [ Some a ↦ a .digits ≤ 6 | None ↦ 0 ≤ 6 ] ⌝ }
+        ensures digits { λ r. ⌜ elim r [ Some a ↦ a .digits ≤ 6 | None ↦ Unit {0} ] ⌝ }
     {
         if !self.has_axis(axis) {
             return None;

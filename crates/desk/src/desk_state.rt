@@ -4,7 +4,7 @@ ghost use Prim.Native.Nat.{_≤_};
 ghost use lib.ListN.{length};
 ghost use Rattle.desk.specs.Axes.{short};
 use crate::axis_settings::AxisSettings;
-use crate::group::Group;
+use groups::Group;
 
 // The settings of the axes and the groups, of which there are half as many.
 #[derive(Clone, Copy)]

@@ -5,11 +5,11 @@ ghost use Prim.Native.Nat.{ℕ, _≤_};
 ghost use lib.ListN.{length, take, replicate};
 ghost use Rattle.setup.specs.Setups.{records-in};
 ghost use Rattle.desk.specs.Axes.{opened-axis, short};
-ghost use Rattle.desk.specs.Groups.{group-model, free-group};
+ghost use Rattle.groups.specs.Groups.{group-model, free-group};
 ghost use Rattle.desk.specs.Desks.{model-of, unopened-desk, opened-desk};
 use crate::axis_settings::AxisSettings;
 use crate::desk_state::Desk;
-use crate::group::Group;
+use groups::Group;
 use setup::Setup;
 
 fn axis_table(setup: &Setup) -> [AxisSettings; 12]

@@ -2,21 +2,11 @@ ghost use mathlib.Core.Path.{_≡_};
 ghost use mathlib.Core.Bool.{true};
 ghost use Prim.Native.Nat.{_≤_};
 ghost use lib.ListN.{length};
-ghost use Rattle.desk.specs.Groups.{lesser, own-of, smallest-own};
+ghost use Rattle.desk.specs.Axes.{own-of, smallest-own};
 ghost use Rattle.desk.specs.Desks.{model-of, can-join};
 use crate::desk_state::Desk;
 use drive::Profile;
-
-// The lesser of two profiles, figure by figure.
-fn lesser(p: Profile, q: Profile) -> Profile
-    ensures { λ r. ⌜ r ≡ lesser p q ⌝ }
-{
-    Profile {
-        velocity: p.velocity.min(q.velocity),
-        acceleration: p.acceleration.min(q.acceleration),
-        deceleration: p.deceleration.min(q.deceleration),
-    }
-}
+use groups::lesser;
 
 impl Desk {
     // The own profile of an axis.

@@ -1,10 +1,8 @@
 use crate::entry::Entry;
 use crate::fault::Fault;
-use crate::fault::FaultDebug;
-use crate::fault::FaultPartialEq;
 
 // A coded refusal that waits to be read, with the column it stands at, counted from 1.
-#[derive(Clone, Copy, PartialEq, Eq, Debug)]
+#[derive(Clone, Copy)]
 pub struct ErrorEntry {
     pub fault: Fault,
     pub column: usize,

@@ -58,6 +58,6 @@ impl ErrorQueue {
     pub fn clear(&mut self)
         ensures { λ _. ⌜ entries (now (self .exit)) ≡ [] ⌝ }
     {
-        self.len = 0;
+        slots::clear(&mut self.slots, &mut self.len);
     }
 }

@@ -47,6 +47,6 @@ impl Route {
     pub fn clear(&mut self)
         ensures { λ _. ⌜ waypoints (now (self .exit)) ≡ [] ⌝ }
     {
-        self.len = 0;
+        slots::clear(&mut self.slots, &mut self.len);
     }
 }

@@ -22,7 +22,7 @@ use Rattle.std.specs.declared.result.Result.the-variants.{Ok}
 use Rattle.setup.specs.declared.record.SetupRecord.{SetupRecord}
 use Rattle.setup.specs.Records.{u32-at, u32-bytes, record-of, bytes-of, name-ok, in-range, lawful}
 use Rattle.setup.specs.Setups.{records-of, count-ok, decoded}
-use Rattle.setup.specs.Encoding.{Encodable, Decodes-back}
+use Rattle.setup.specs.Encoding.{Encodable, written, Reads-back}
 
 -- four bytes make the number again
 pub bytes-back : (n : ℕ) → n < 4294967296 → n % 256 + n / 256 % 256 * 256 + n / 65536 % 256 * 65536 + n / 16777216 % 256 * 16777216 ≡ n
@@ -94,10 +94,15 @@ pub all-lawful : (rs : List SetupRecord) → All Encodable rs → all-pass lawfu
 all-lawful [] s = refl
 all-lawful (r ∷ rs) s = and-from (lawful r) (all-pass lawful rs) (s .0 .keeps) (all-lawful rs (s .1))
 
-pub decodes-back : Decodes-back
+pub decodes-back : (rs : List SetupRecord) → Reads-back rs (joined bytes-of rs)
 decodes-back rs two twelve s =
     let size = length-file rs s in
     let count : length (joined bytes-of rs) / 48 ≡ length rs = omega arith in
     let whole : count-ok (length (joined bytes-of rs)) ≡ true = grind (arith, tells) in
     let back : records-of (length (joined bytes-of rs) / 48) (joined bytes-of rs) ≡ rs = ap (λ n. records-of n (joined bytes-of rs)) count ∙ records-back rs s in
     cond-true _ _ _ whole ∙ cond-true _ _ _ (ap (λ z. all-pass lawful z) back ∙ all-lawful rs s) ∙ ap Ok back
+
+-- what stands at the front of the buffer
+pub front-back : (rs : List SetupRecord) (out out′ : List ℕ) → out′ ≡ written 0 (joined bytes-of rs) out → length (joined bytes-of rs) ≡ 48 * length rs → Reads-back rs (take (48 * length rs) out′)
+front-back rs out out′ e size two twelve s =
+    ap decoded (ap (λ z. take (48 * length rs) z) e ∙ take-at (joined bytes-of rs) _ (48 * length rs) size) ∙ decodes-back rs two twelve s

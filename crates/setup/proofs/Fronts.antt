@@ -8,9 +8,9 @@ use lib.Dec.{leb}
 use lib.ListN.{length, getD, drop}
 use Rattle.std.specs.shelf.Lawful.{all-pass}
 use Rattle.std.proofs.shelf.Lists.{drop-more, drop-all}
-use Rattle.setup.specs.Records.{text-length}
+use Rattle.setup.specs.Records.{printable, text-length}
 
-pub text-more : (xs : List ℕ) (k : ℕ) → k < length xs → text-length (drop k xs) ≡ cond (leb 32 (getD xs k 0) && leb (getD xs k 0) 126) (suc (text-length (drop (k + 1) xs))) 0
+pub text-more : (xs : List ℕ) (k : ℕ) → k < length xs → text-length (drop k xs) ≡ cond (printable (getD xs k 0)) (suc (text-length (drop (k + 1) xs))) 0
 text-more xs k lt = rw (drop-more xs k 0 lt)
 
 pub text-all : (xs : List ℕ) (k : ℕ) → length xs ≤ k → text-length (drop k xs) ≡ 0

@@ -30,6 +30,6 @@ pub record Encodable (r : SetupRecord) : Type 0 where
   pub left : SFits w32 (r .left)
   pub right : SFits w32 (r .right)
 
--- 2 to 12 records, written and read, are the same records
-abbrev pub Decodes-back : Type 0
-Decodes-back = (rs : List SetupRecord) → 2 ≤ length rs → length rs ≤ 12 → All Encodable rs → decoded (joined bytes-of rs) ≡ Ok rs
+-- bytes that are read as the records, if there are 2 to 12 and each keeps the layout
+abbrev pub Reads-back : List SetupRecord → List ℕ → Type 0
+Reads-back rs bs = 2 ≤ length rs → length rs ≤ 12 → All Encodable rs → decoded bs ≡ Ok rs

@@ -23,10 +23,14 @@ i32-at bs i = toZ w32 (u32-at bs i)
 abbrev pub record-of : List ℕ → SetupRecord
 record-of bs = record { name = take 32 bs; «max_velocity» = u32-at bs 32; «max_acceleration» = u32-at bs 36; left = i32-at bs 40; right = i32-at bs 44 }
 
--- how many bytes stand before the first that is not from 32 to 126
+-- a byte from 32 to 126
+abbrev pub printable : ℕ → Bool
+printable b = leb 32 b && leb b 126
+
+-- how many bytes stand before the first that is not
 abbrev pub text-length : List ℕ → ℕ
 text-length [] = 0
-text-length (b ∷ bs) = cond (leb 32 b && leb b 126) (suc (text-length bs)) 0
+text-length (b ∷ bs) = cond (printable b) (suc (text-length bs)) 0
 
 abbrev pub all-zero : List ℕ → Bool
 all-zero bs = all-pass (λ b. eqb b 0) bs

@@ -3,6 +3,7 @@ use mathlib.Core.Bool.{Bool, true, false, cond, _&&_, _||_}
 use mathlib.Core.List.{List, [], _∷_, _++_}
 use Prim.Native.Nat.{ℕ, zero, suc, _-_, _/_, _%_}
 use lib.Dec.{leb, ltb, eqb}
+use lib.IntN.{pos}
 use lib.ListN.{length, take, drop}
 use Rattle.std.specs.declared.option.Option.{Option}
 use Rattle.std.specs.declared.option.Option.the-variants.{Some, None}
@@ -18,6 +19,10 @@ use Rattle.setup.specs.Records.{record-of, lawful}
 
 abbrev pub records-in : Setup → List SetupRecord
 records-in s = take (s .count) (s .records)
+
+-- what stands where there is no record
+abbrev pub no-record : SetupRecord
+no-record = record { name = []; «max_velocity» = 0; «max_acceleration» = 0; left = pos 0; right = pos 0 }
 
 -- the record of an axis, counted from 1
 abbrev pub nth-record : ℕ → List SetupRecord → Option SetupRecord

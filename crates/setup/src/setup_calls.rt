@@ -1,8 +1,6 @@
 ghost use mathlib.Core.Path.{_≡_};
-ghost use mathlib.Core.List.{[], _∷_, _++_};
-ghost use Prim.Native.Nat.{_≤_};
-ghost use lib.ListN.{length};
-ghost use Rattle.setup.specs.Setups.{records-in, nth-record, one-more};
+ghost use mathlib.Core.List.{[]};
+ghost use Rattle.setup.specs.Setups.{records-in, one-more};
 use crate::record::SetupRecord;
 use crate::setup_table::Setup;
 
@@ -33,22 +31,5 @@ impl Setup {
         self.records[self.count] = next;
         self.count += 1;
         true
-    }
-
-    pub fn count(&self) -> usize
-        ensures value { λ r. ⌜ r ≡ length (records-in (now (self .entry))) ⌝ }
-        ensures few { λ r. ⌜ r ≤ 12 ⌝ }
-    {
-        self.count
-    }
-
-    // The record of an axis, counted from 1.
-    pub fn record(&self, axis: usize) -> Option<SetupRecord>
-        ensures { λ r. ⌜ r ≡ nth-record axis (records-in (now (self .entry))) ⌝ }
-    {
-        if axis < 1 || axis > self.count {
-            return None;
-        }
-        Some(self.records[axis - 1])
     }
 }

@@ -1,7 +1,7 @@
 use mathlib.Core.Path.{refl, ap, _∙_}
 use mathlib.Core.List.{map}
 use Rattle.std.proofs.shelf.Lists.{take-replicate}
-use Rattle.desk.specs.Groups.{group-model, free-group}
+use Rattle.groups.specs.Groups.{group-model, free-group}
 use Rattle.desk.proofs.Joining.{map-same}
 use Rattle.desk.proofs.opening.free_groups.Needs as need
 

@@ -4,8 +4,8 @@ use Rattle.std.proofs.shelf.Ways.{tells}
 use Rattle.setup.proofs.Fronts.{text-more, text-all}
 use Rattle.setup.proofs.name.text_length.Needs as need
 
-pub returns-then-b-lt32 : need.returns-then-b-lt32
-returns-then-b-lt32 c =
+pub returns-then-not-printable : need.returns-then-not-printable
+returns-then-not-printable c =
     let s = text-more (c .args .name .now) (c .loop-k .k) (c .loop-k-test .taken) in
     record { value = grind (arith, tells); within = search needs }
 

@@ -3,7 +3,7 @@ use mathlib.Core.Bool.{false}
 use native.Mathlib.Omega.{arith}
 use Rattle.std.proofs.shelf.Ways.{tells}
 use Rattle.desk.specs.Tables.{there}
-use Rattle.desk.specs.Groups.{free-group}
+use Rattle.groups.specs.Groups.{free-group}
 use Rattle.desk.specs.Desks.{model-of}
 use Rattle.desk.proofs.Changes.{row-or-missing, alter-missing}
 use Rattle.desk.proofs.Founds.{groups-length, found-there}

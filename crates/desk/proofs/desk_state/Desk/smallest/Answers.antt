@@ -4,7 +4,8 @@ use mathlib.Core.List.{map}
 use Prim.Native.Nat.{_+_}
 use native.Mathlib.Omega.{arith}
 use lib.ListN.{drop}
-use Rattle.desk.specs.Groups.{lesser, least, own-of}
+use Rattle.groups.specs.Profiles.{lesser, least}
+use Rattle.desk.specs.Axes.{own-of}
 use Rattle.desk.specs.Desks.{model-of}
 use Rattle.desk.proofs.Joining.{smallest-none, smallest-first, least-more, least-all}
 use Rattle.desk.proofs.desk_state.Desk.smallest.Needs as need

@@ -1,7 +1,8 @@
 use mathlib.Core.Path.{_≡_}
 use mathlib.Core.List.{map}
 use lib.ListN.{drop}
-use Rattle.desk.specs.Groups.{least, own-of, smallest-own}
+use Rattle.groups.specs.Profiles.{least}
+use Rattle.desk.specs.Axes.{own-of, smallest-own}
 use Rattle.desk.specs.Desks.{model-of}
 use Rattle.desk.proofs.desk_state.Desk.smallest.Given as given
 

@@ -1,6 +1,0 @@
-use borrow.Author.Needs.{needs}
-use Rattle.queue.proofs.Fronts.{behind}
-use Rattle.queue.proofs.slots.add.Needs as need
-
-pub returns : need.returns
-returns g c = search (needs, behind)
