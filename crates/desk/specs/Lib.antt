@@ -1,0 +1,4 @@
+pub mod Tables
+pub mod Axes
+pub mod Desks
+pub mod Found

@@ -1,0 +1,3 @@
+// Tests of the state that the console keeps.
+#[cfg(test)]
+mod tests;

@@ -1,0 +1,5 @@
+pub mod Queue
+pub mod Faults
+pub mod Refusals
+pub mod Errors
+pub mod Waypoints

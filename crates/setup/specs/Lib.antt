@@ -1,0 +1,3 @@
+pub mod Records
+pub mod Setups
+pub mod Encoding
