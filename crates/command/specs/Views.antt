@@ -1,7 +1,9 @@
 -- What the reader's values mean.
+use mathlib.Core.Bool.{Bool, cond}
 use mathlib.Core.List.{List, [], _∷_}
-use Prim.Native.Nat.{ℕ, _+_}
+use Prim.Native.Nat.{ℕ, _+_, _^_}
 use denote.Ref.{RefT}
+use lib.Dec.{leb}
 use lib.ListN.{length}
 use Rattle.std.specs.Options.{mapped}
 use Rattle.std.specs.declared.option.Option.{Option}
@@ -42,6 +44,14 @@ text-of (Question t) = t
 -- a command
 abbrev pub said : taken.Command → Command
 said c = record { column = c .column; prefix = mapped seen (c .prefix); letters = mapped seen (c .letters); mnemonic = c .mnemonic; question = question-of (seen-text (c .rest)); parameters = parameters-of (seen-text (c .rest)) }
+
+-- a command whose rest ends at column 2 ^ 63 at the latest, as it does in every line
+abbrev pub countable : taken.Command → Bool
+countable c = leb (c .rest .column + length (c .rest .bytes .now)) (2 ^ 63)
+
+-- fields of such a command; none of any other
+abbrev pub when-countable : taken.Command → List Field → List Field
+when-countable c fs = cond (countable c) fs []
 
 -- the commands still to come
 abbrev pub to-come : Commands → List Command

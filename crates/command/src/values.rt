@@ -7,7 +7,7 @@ ghost use Rattle.std.specs.Options.{mapped, Cases as BySome};
 ghost use Rattle.number.specs.Digits.{number};
 ghost use Rattle.command.specs.Held.{left-of};
 ghost use Rattle.command.specs.Commands.{prefix-number, capped};
-ghost use Rattle.command.specs.Views.{seen, text-of, said, to-give, limit-of, gives};
+ghost use Rattle.command.specs.Views.{seen, text-of, said, countable, when-countable, to-give, limit-of, gives};
 use crate::bytes::before_comma;
 use crate::bytes::column_behind;
 use crate::bytes::trim;
@@ -18,6 +18,9 @@ use crate::text::Text;
 
 /// From this number on all numbers are alike: there are never so many axes or groups.
 const CAP: u32 = 1000;
+
+/// The last column that is counted, far behind the end of any line.
+const LAST: usize = 1 << 63;
 
 /// The number that digits write, however many they are; 1000 where it is larger.
 fn capped_number(digits: &[u8]) -> u32
@@ -49,13 +52,26 @@ impl<'a> Command<'a> {
         }
     }
 
+    /// Whether the rest ends at a column that can be counted; the rest of every command of a line does.
+    fn counts(&self) -> bool
+        ensures { λ r. ⌜ r ≡ countable (now (self .entry)) ⌝ }
+    {
+        let Text { bytes, column } = self.rest;
+        column <= LAST && bytes.len() <= LAST - column
+    }
+
     /// The parameters; none where the rest is nothing or a question.
     pub fn parameters(&self) -> Parameters<'a>
-        requires { ⌜ now self .rest .column + length (now (now self .rest .bytes)) ≤ 2 ^ 63 ⌝ }
-        ensures all { λ r. ⌜ to-give r ≡ said (now (self .entry)) .parameters ⌝ }
+        ensures all { λ r. ⌜ to-give r ≡ when-countable (now (self .entry)) (said (now (self .entry)) .parameters) ⌝ }
         ensures left { λ r. ⌜ left-of (r .rest) ≤ length (now (now (self .entry) .rest .bytes)) + 1 ⌝ }
         ensures limit { λ r. ⌜ limit-of r ≤ now (self .entry) .rest .column + length (now (now (self .entry) .rest .bytes)) + 1 ⌝ }
     {
+        if !self.counts() {
+            return Parameters {
+                rest: None,
+                column: 0,
+            };
+        }
         let Text { bytes, column } = self.rest;
         match bytes {
             [] | [b'?'] => Parameters { rest: None, column },
