@@ -1,0 +1,9 @@
+pub mod World
+pub mod Kinds
+pub mod Refusals
+pub mod Deeds
+pub mod Replies
+pub mod Steps
+pub mod Calls
+pub mod Samples
+pub mod Runs
