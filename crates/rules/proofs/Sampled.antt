@@ -24,4 +24,5 @@ samples =
       group-axes = refl;
       naming = refl;
       long-enough = refl;
-      too-long = refl }
+      too-long = refl;
+    }

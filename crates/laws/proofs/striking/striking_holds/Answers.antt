@@ -1,0 +1,7 @@
+use Rattle.laws.proofs.StrikingTexts.{lines-struck}
+use Rattle.laws.proofs.StrikingRuns.{striking}
+use Rattle.laws.proofs.StrikingSample.{sample}
+use Rattle.laws.proofs.striking.striking_holds.Needs as need
+
+pub returns : need.returns
+returns c = record { lines = lines-struck; law = striking; sample = sample }
