@@ -88,12 +88,12 @@ digits-fine k n j g =
 
 -- ---- groups
 
-on-group-fine : (k : Core) (f : GroupModel → GroupModel) (n : ℕ) → Good k → GoodGroup (settings k) (length (k .desk .axes)) (f (group k n)) → Fine k (note (on-group f n (k .desk) .1) k)
+on-group-fine : (k : Core) (f : GroupModel → GroupModel) (n : ℕ) → Good k → (T (in-use n (k .desk)) → GoodGroup (settings k) (length (k .desk .axes)) (f (group k n))) → Fine k (note (on-group f n (k .desk) .1) k)
 on-group-fine k f n g here = note-fine k (on-group f n (k .desk) .1) (on-group-good k f n g here) (picked (in-use n (k .desk)) (λ (d : DeskModel). (j : ℕ) → most (row-or no-axis j (d .axes)) ≡ most (settings k j)) _ _ (λ j. refl) (λ j. refl))
 
 -- another profile within the maxima of the members
 profile-fine : (k : Core) (f : Profile → Profile) (n : ℕ) → Good k → ((m : ℕ) → T (has m (members k n)) → AtMost (f (group k n .profile)) (most (settings k m))) → Fine k (note (on-group (with-profile f) n (k .desk) .1) k)
-profile-fine k f n g h = on-group-fine k (with-profile f) n g (record { there-low = g .groups n .there-low; there-high = g .groups n .there-high; figures = h; waiting = g .groups n .waiting })
+profile-fine k f n g h = on-group-fine k (with-profile f) n g (λ u. record { there-low = g .groups n .there-low; there-high = g .groups n .there-high; figures = h; waiting = g .groups n .waiting; idle = g .groups n .idle })
 
 lesser-l : (p q : Profile) → AtMost (lesser p q) p
 lesser-l p q = omega arith
@@ -128,6 +128,7 @@ formed-fine k n ms g =
       there-high = λ m e. there-high m axes (all-pass-has (λ i. there i axes) ms m here e);
       figures = λ m e. at-most-trans (smallest-own axes ms) (own-of axes m) (most (settings k m)) (smallest-below axes ms m e) (g .each m .own-most);
       waiting = tt;
+      idle = λ e. refl;
     })) (λ j. refl))
     (note-fine k (k .desk) g (λ j. refl))
   where
@@ -138,7 +139,6 @@ formed-fine k n ms g =
     third true true false y z t = absurd t
     third true true true false z t = absurd t
     third true true true true false t = absurd t
-
     joined-there : T (there n (k .desk .groups) && not (in-use n (k .desk)) && can-join ms (k .desk)) → T (all-pass (λ m. there m (k .desk .axes)) ms)
     joined-there t = third (there n (k .desk .groups)) (not (in-use n (k .desk))) (leb 2 (length ms)) (leb (length ms) 12) _ t
 
@@ -146,7 +146,7 @@ formed-fine k n ms g =
 send-fine : (b : Bool) (g : ℕ) (zs : List ℤ) (k : Core) → Good k → ((n : ℕ) → T (has n (members k g)) → T (powered k n)) → Fit (settings k) (members k g) zs → Fine k (send b g zs k)
 send-fine true g zs k good on f =
     picked (eqb (length zs) (length (members k g)) && ltb (length (group k g .waypoints)) 8) (λ d. Fine k (note d k)) _ _
-    (on-group-fine k (with-waypoints (λ ws. ws ++ zs ∷ [])) g good (waypoints-good k (λ ws. ws ++ zs ∷ []) g good (all-append (Fit (settings k) (members k g)) (group k g .waypoints) (zs ∷ []) (good .groups g .waiting) (f, tt))))
+    (on-group-fine k (with-waypoints (λ ws. ws ++ zs ∷ [])) g good (λ u. waypoints-good k (λ ws. ws ++ zs ∷ []) g good (all-append (Fit (settings k) (members k g)) (group k g .waypoints) (zs ∷ []) (good .groups g .waiting) (f, tt)) (λ e. absurd (subst (λ ms. T (ltb 0 (length ms))) e u))))
     (note-fine k (k .desk) good (λ j. refl))
 send-fine false g zs k good on f = starts-fine k (group k g .profile) (members k g) zs good (group-proper k g good (members k g) zs (λ n e. e) on f)
 
@@ -176,28 +176,24 @@ does-fine k Mo c g p = tell-fine k (power-on (axis-named c) ∷ []) g (tt, tt) (
 does-fine k Mf c g p = tell-fine k (power-off (axis-named c) ∷ []) g (tt, tt) (tt, tt)
 does-fine k Pa c g p =
     let n = axis-named c in
-    starts-fine k (settings k n .own) (n ∷ []) (given c ∷ []) g (
-      record {
-        due = inr (ungrouped (k .desk .groups) n (p .alone .0), refl);
-        inside = record { low = le-of (p .limits .1 .0); high = le-of (p .limits .0) };
-        power = p .power .0;
-        low = there-low n (k .desk .axes) (p .axis-there .0);
-        high = subst (λ m. n ≤ m) (g .lengths) (there-high n (k .desk .axes) (p .axis-there .0));
-      },
-      tt,
-    )
+    starts-fine k (settings k n .own) (n ∷ []) (given c ∷ []) g
+    (record {
+      due = inr (ungrouped (k .desk .groups) n (p .alone .0), refl);
+      inside = record { low = le-of (p .limits .1 .0); high = le-of (p .limits .0) };
+      power = p .power .0;
+      low = there-low n (k .desk .axes) (p .axis-there .0);
+      high = subst (λ m. n ≤ m) (g .lengths) (there-high n (k .desk .axes) (p .axis-there .0));
+    }, tt)
 does-fine k Pr c g p =
     let n = axis-named c in
-    starts-fine k (settings k n .own) (n ∷ []) ((axis-at k n .target +ℤ given c) ∷ []) g (
-      record {
-        due = inr (ungrouped (k .desk .groups) n (p .alone .0), refl);
-        inside = record { low = le-of (p .limits .1 .0); high = le-of (p .limits .0) };
-        power = p .power .0;
-        low = there-low n (k .desk .axes) (p .axis-there .0);
-        high = subst (λ m. n ≤ m) (g .lengths) (there-high n (k .desk .axes) (p .axis-there .0));
-      },
-      tt,
-    )
+    starts-fine k (settings k n .own) (n ∷ []) ((axis-at k n .target +ℤ given c) ∷ []) g
+    (record {
+      due = inr (ungrouped (k .desk .groups) n (p .alone .0), refl);
+      inside = record { low = le-of (p .limits .1 .0); high = le-of (p .limits .0) };
+      power = p .power .0;
+      low = there-low n (k .desk .axes) (p .axis-there .0);
+      high = subst (λ m. n ≤ m) (g .lengths) (there-high n (k .desk .axes) (p .axis-there .0));
+    }, tt)
 does-fine k St c g p = tell-fine k (stop (axis-named c) ∷ []) g (tt, tt) (tt, tt)
 does-fine k Dh c g p =
     let n = axis-named c in
@@ -214,7 +210,7 @@ does-fine k Hx c g p =
     let n = group-named k c in
     let t = tell (map stop (members k n)) k in
     let f = all-told-fine k stop (members k n) g (λ m. tt) (λ m. tt) in
-    then-fine k t (λ j. note (dissolved n (j .desk) .1) j) f (on-group-fine (t .core) (λ x. free-group) n (f .good) (free-good _ _)) tt
+    then-fine k t (λ j. note (dissolved n (j .desk) .1) j) f (on-group-fine (t .core) (λ x. free-group) n (f .good) (λ u. free-good _ _)) tt
 does-fine k Hv c g p =
     let n = group-named k c in
     profile-fine k (velocity-in (natAbs (given c))) n g

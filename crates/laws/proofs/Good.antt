@@ -23,7 +23,7 @@ use Rattle.desk.specs.Desks.{on-axis, at-group, on-group, in-use, waypoints-emp
 use Rattle.rules.specs.Deeds.{all-emptied}
 use Rattle.rules.specs.World.{Core, settings, group, members, axis-at, no-drive-axis, with-desk, with-drive}
 use Rattle.laws.specs.Laws.{AtMost, Bounded}
-use Rattle.laws.proofs.Basics.{alter-length, alter-keeps, map-keeps, Touches, effect, replay-keeps, replay-count, picked, all-weaker, has-first, has-later}
+use Rattle.laws.proofs.Basics.{alter-length, alter-keeps, map-keeps, Touches, effect, replay-keeps, replay-count, picked, picked-when, all-weaker, has-first, has-later}
 
 -- the maxima of an axis, as figures
 abbrev pub most : AxisSettings → Profile
@@ -57,6 +57,7 @@ pub record GoodGroup (s : ℕ → AxisSettings) (count : ℕ) (g : GroupModel) :
   pub there-high : (n : ℕ) → T (has n (g .members)) → n ≤ count
   pub figures : (n : ℕ) → T (has n (g .members)) → AtMost (g .profile) (most (s n))
   pub waiting : All (Fit s (g .members)) (g .waypoints)
+  pub idle : g .members ≡ [] → g .waypoints ≡ []
 
 pub record Good (k : Core) : Type 0 where
   pub lengths : length (k .desk .axes) ≡ length (k .drive)
@@ -142,6 +143,7 @@ group-on s u count g m f h =
       there-high = h .there-high;
       figures = λ n e. subst (AtMost (g .profile)) (sym (m n)) (h .figures n e);
       waiting = all-weaker (Fit s (g .members)) (Fit u (g .members)) (fit-on s u (g .members) f) (g .waypoints) (h .waiting);
+      idle = h .idle;
     }
 
 -- ---- the desk changed
@@ -167,25 +169,25 @@ pub group-good : (k : Core) (f : GroupModel → GroupModel) (n : ℕ) → Good k
 group-good k f n g here = record { lengths = g .lengths; each = g .each; groups = alter-keeps (λ j x. GoodGroup (settings k) (length (k .desk .axes)) x) f n (k .desk .groups) free-group (g .groups) here }
 
 -- one that has members
-pub on-group-good : (k : Core) (f : GroupModel → GroupModel) (n : ℕ) → Good k → GoodGroup (settings k) (length (k .desk .axes)) (f (group k n)) → Good (with-desk (on-group f n (k .desk) .1) k)
-on-group-good k f n g here = picked (in-use n (k .desk)) (λ d. Good (with-desk d k)) _ _ (group-good k f n g here) g
+pub on-group-good : (k : Core) (f : GroupModel → GroupModel) (n : ℕ) → Good k → (T (in-use n (k .desk)) → GoodGroup (settings k) (length (k .desk .axes)) (f (group k n))) → Good (with-desk (on-group f n (k .desk) .1) k)
+on-group-good k f n g here = picked-when (in-use n (k .desk)) (λ d. Good (with-desk d k)) _ _ (λ u. group-good k f n g (here u)) g
 
 -- with other waypoints that fit
-pub waypoints-good : (k : Core) (f : List (List ℤ) → List (List ℤ)) (n : ℕ) → Good k → All (Fit (settings k) (members k n)) (f (group k n .waypoints)) → GoodGroup (settings k) (length (k .desk .axes)) (with-waypoints f (group k n))
-waypoints-good k f n g h = record { there-low = g .groups n .there-low; there-high = g .groups n .there-high; figures = g .groups n .figures; waiting = h }
+pub waypoints-good : (k : Core) (f : List (List ℤ) → List (List ℤ)) (n : ℕ) → Good k → All (Fit (settings k) (members k n)) (f (group k n .waypoints)) → (members k n ≡ [] → f (group k n .waypoints) ≡ []) → GoodGroup (settings k) (length (k .desk .axes)) (with-waypoints f (group k n))
+waypoints-good k f n g h i = record { there-low = g .groups n .there-low; there-high = g .groups n .there-high; figures = g .groups n .figures; waiting = h; idle = i }
 
 pub free-good : (s : ℕ → AxisSettings) (count : ℕ) → GoodGroup s count free-group
-free-good s count = record { there-low = λ n e. absurd e; there-high = λ n e. absurd e; figures = λ n e. absurd e; waiting = tt }
+free-good s count = record { there-low = λ n e. absurd e; there-high = λ n e. absurd e; figures = λ n e. absurd e; waiting = tt; idle = λ e. refl }
 
 pub emptied-good : (k : Core) (n : ℕ) → Good k → Good (with-desk (waypoints-emptied n (k .desk)) k)
-emptied-good k n g = group-good k (with-waypoints (λ ws. [])) n g (waypoints-good k (λ ws. []) n g tt)
+emptied-good k n g = group-good k (with-waypoints (λ ws. [])) n g (waypoints-good k (λ ws. []) n g tt (λ e. refl))
 
 pub all-emptied-good : (k : Core) → Good k → Good (with-desk (all-emptied (k .desk)) k)
 all-emptied-good k g =
     record {
       lengths = g .lengths;
       each = g .each;
-      groups = map-keeps (λ j x. GoodGroup (settings k) (length (k .desk .axes)) x) (with-waypoints (λ ws. [])) (k .desk .groups) free-group (g .groups) (λ j. waypoints-good k (λ ws. []) j g tt);
+      groups = map-keeps (λ j x. GoodGroup (settings k) (length (k .desk .axes)) x) (with-waypoints (λ ws. [])) (k .desk .groups) free-group (g .groups) (λ j. waypoints-good k (λ ws. []) j g tt (λ e. refl));
     }
 
 pub fit-drop : (s : ℕ → AxisSettings) (ns : List ℕ) (ws : List (List ℤ)) → All (Fit s ns) ws → All (Fit s ns) (drop 1 ws)

@@ -8,6 +8,7 @@ pub mod Runs
 pub mod Counts
 pub mod Ledgers
 pub mod Whole
+pub mod Instanced
 pub mod StrikingViews
 pub mod StrikingTests
 pub mod StrikingSteps
@@ -17,3 +18,4 @@ pub mod StrikingTexts
 pub mod StrikingCalls
 pub mod StrikingRuns
 pub mod StrikingSample
+pub mod StrikingSent

@@ -7,19 +7,25 @@ use Prim.Native.Nat.{ℕ, zero, suc}
 use lib.Dec.{T, leb}
 use lib.IntN.{ℤ}
 use Rattle.std.specs.shelf.Lists.{All}
+use Rattle.std.proofs.shelf.Tests.{false≢true}
+use Rattle.std.specs.declared.option.Option.{Option}
+use Rattle.std.specs.declared.option.Option.the-variants.{Some, None}
 use Rattle.std.specs.declared.result.Result.{Result}
 use Rattle.std.specs.declared.result.Result.the-variants.{Ok, Err}
 use Rattle.drive.specs.declared.profile.Profile.{Profile}
 use Rattle.drive.specs.Calls.{Told, power-on, power-off, start, stop, set-position, tick}
+use Rattle.command.specs.declared.mnemonic.Mnemonic.{Mnemonic}
 use Rattle.command.specs.Commands.{Command, commands-of}
+use Rattle.queue.specs.declared.error_entry.ErrorEntry.{ErrorEntry}
 use Rattle.queue.specs.declared.refusal.Refusal.{Refusal}
 use Rattle.rules.specs.World.{Core, World, settings, axis-at}
 use Rattle.rules.specs.Deeds.{Trail, beats}
-use Rattle.rules.specs.Steps.{step, run-commands}
+use Rattle.rules.specs.Refusals.{tests, refused-by}
+use Rattle.rules.specs.Steps.{step, settled, accepted, run-commands}
 use Rattle.rules.specs.Calls.{matches, too-long, line-world, line-taken, ticks-call}
 use Rattle.rules.specs.Runs.{Call, line-sent, ticks-made, error-asked, after-line, called, run, moment}
-use Rattle.laws.specs.Laws.{AtMost, Bounded, state, All-told, Keeps-limits, Start-is, Starts-are}
-use Rattle.laws.proofs.Basics.{picked, all-weaker}
+use Rattle.laws.specs.Laws.{was-refused, Untouched, AtMost, Bounded, state, All-told, Keeps-limits, Start-is, Starts-are}
+use Rattle.laws.proofs.Basics.{judged, picked, all-weaker}
 use Rattle.laws.proofs.Good.{most, GoodAxis, Good}
 use Rattle.laws.proofs.Trails.{ProperStart, Proper, Fine, Calm, beats-calm}
 use Rattle.laws.proofs.Deeds.{step-fine}
@@ -79,6 +85,16 @@ all-told w g xs cs =
     let s = state w xs cs in
     let h = state-good w g xs cs in
     record { command = λ c. step-fine s c h .whole; beating = λ k. beats-calm k (s .core) h .fine .whole }
+
+pub refused-keeps : (w : World) (c : Command) → was-refused (step w c .outcome) ≡ true → Untouched w c
+refused-keeps w c =
+    let P : Option ErrorEntry → Type 0 = λ o. was-refused (settled w c o .outcome) ≡ true → (settled w c o .told ≡ []) × (settled w c o .world .core ≡ w .core) in
+    let told : P (refused-by (w .core) c) = elim (judged (tests (w .core) c)) [ inl r ↦ subst P (sym (r .1)) (λ e. (refl, refl)) | inr r ↦ subst P (sym (r .1)) (not-refused (c .mnemonic)) ] in
+    λ e. record { nothing-told = told e .0; core-kept = told e .1 }
+  where
+    not-refused : (o : Option Mnemonic) → was-refused (accepted w o c .outcome) ≡ true → (accepted w o c .told ≡ []) × (accepted w o c .world .core ≡ w .core)
+    not-refused None e = absurd (false≢true e)
+    not-refused (Some m) e = absurd (false≢true e)
 
 pub keeps-limits : (w : World) → Good (w .core) → Keeps-limits w
 keeps-limits w g xs cs k n =

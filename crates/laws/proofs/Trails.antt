@@ -334,7 +334,7 @@ set-off-calm true g k good on =
     let zs = first-waypoint (group k g .waypoints) in
     let taken : Calm k (note (waypoint-taken g (k .desk) .1) k) =
     record {
-      fine = note-fine k (waypoint-taken g (k .desk) .1) (group-good k (with-waypoints (drop 1)) g good (waypoints-good k (drop 1) g good (fit-drop (settings k) ns (group k g .waypoints) (good .groups g .waiting)))) (λ n. refl);
+      fine = note-fine k (waypoint-taken g (k .desk) .1) (group-good k (with-waypoints (drop 1)) g good (waypoints-good k (drop 1) g good (fit-drop (settings k) ns (group k g .waypoints) (good .groups g .waiting)) (λ e. ap (drop 1) (good .groups g .idle e)))) (λ n. refl);
       same = s;
     }
     in

@@ -38,7 +38,7 @@ use Rattle.laws.proofs.Good.{most, Good}
 use Rattle.laws.proofs.Trails.{beats-calm}
 use Rattle.laws.proofs.Deeds.{step-fine, least-first, least-later}
 use Rattle.laws.proofs.Openings.{opened-good, opened-count, opened-group}
-use Rattle.laws.proofs.Runs.{step-good, beats-good, run-keeps, state-good, Capped, state-capped, all-told, keeps-limits, starts-are, proper-most}
+use Rattle.laws.proofs.Runs.{step-good, beats-good, run-keeps, state-good, Capped, state-capped, all-told, refused-keeps, keeps-limits, starts-are, proper-most}
 use Rattle.laws.proofs.Ledgers.{Kept, state-kept, beats-kept, proper-due}
 
 -- a setting of each axis at the opening, by its record
@@ -74,6 +74,8 @@ lawful rs axes sound m p =
     record {
       told = all-told w g;
       limits = keeps-limits w g;
+      refusals = λ xs cs. refused-keeps (state w xs cs);
+      none-left-waiting = λ xs cs k n. beats-good k (state w xs cs .core) (state-good w g xs cs) .groups n .idle;
       never-over = λ xs cs.
           let k = state w xs cs .core in
           let h = state-capped (greatest-of rs) w capped xs cs in
@@ -107,8 +109,8 @@ accepted-only TickCount e = omega (arith, e)
 accepted-only NoSuchError e = omega (arith, e)
 
 opening : (w : World) (rs : List SetupRecord) (a b : Bool) → (T a → T b → Lawful rs (opened rs (w .core .drive)))
-    → cond {A = Answer × World} a (cond {A = Answer × World} b (accepting [], opened rs (w .core .drive)) (refusing OutsideLimits, w)) (refusing DriveMismatch, w) .0 .number ≡ 0
-    → Lawful rs (cond {A = Answer × World} a (cond {A = Answer × World} b (accepting [], opened rs (w .core .drive)) (refusing OutsideLimits, w)) (refusing DriveMismatch, w) .1)
+  → cond {A = Answer × World} a (cond {A = Answer × World} b (accepting [], opened rs (w .core .drive)) (refusing OutsideLimits, w)) (refusing DriveMismatch, w) .0 .number ≡ 0
+  → Lawful rs (cond {A = Answer × World} a (cond {A = Answer × World} b (accepting [], opened rs (w .core .drive)) (refusing OutsideLimits, w)) (refusing DriveMismatch, w) .1)
 opening w rs true true f e = f tt tt
 opening w rs true false f e = absurd (accepted-only OutsideLimits e)
 opening w rs false b f e = absurd (accepted-only DriveMismatch e)

@@ -50,6 +50,26 @@ pub record Bounded (left right : ℤ) (a : Axis) : Type 0 where
 abbrev pub Keeps-limits : World → Type 0
 Keeps-limits w = (xs : List Call) (cs : List Command) (k n : ℕ) → Bounded (settings (moment w xs cs k) n .left) (settings (moment w xs cs k) n .right) (axis-at (moment w xs cs k) n)
 
+-- ---- refusals
+
+abbrev pub was-refused : Outcome → Bool
+was-refused (refused e) = true
+was-refused (replied bytes) = false
+
+-- A command that is refused tells the drive nothing and changes nothing but the errors that wait.
+pub record Untouched (w : World) (c : Command) : Type 0 where
+  pub nothing-told : step w c .told ≡ []
+  pub core-kept : step w c .world .core ≡ w .core
+
+abbrev pub Refusals-keep : World → Type 0
+Refusals-keep w = (xs : List Call) (cs : List Command) (c : Command) → was-refused (step (state w xs cs) c .outcome) ≡ true → Untouched (state w xs cs) c
+
+-- ---- waypoints
+
+-- At every moment no waypoint waits in a group without members.
+abbrev pub None-left-waiting : World → Type 0
+None-left-waiting w = (xs : List Call) (cs : List Command) (k g : ℕ) → members (moment w xs cs k) g ≡ [] → group (moment w xs cs k) g .waypoints ≡ []
+
 -- ---- starts
 
 -- no figure of p is above that of q
@@ -76,11 +96,7 @@ pub record Starts-are (P : ℕ → Profile → Type 0) (w : World) (xs : List Ca
 abbrev pub Never-over : List SetupRecord → World → Type 0
 Never-over rs w = (xs : List Call) (cs : List Command) → Starts-are (λ n q. AtMost q (greatest-of rs n)) w xs cs
 
--- ---- the ledger's food: each command that was run, and whether it was refused
-
-abbrev pub was-refused : Outcome → Bool
-was-refused (refused e) = true
-was-refused (replied bytes) = false
+-- ---- what the ledger is fed: each command that was run, and whether it was refused
 
 -- of commands in turn
 abbrev pub protocol : World → List Command → List (Command × Bool)
@@ -175,6 +191,8 @@ pub record Words : Type 0 where
 pub record Lawful (rs : List SetupRecord) (w : World) : Type 0 where
   pub told : (xs : List Call) (cs : List Command) → All-told w xs cs
   pub limits : Keeps-limits w
+  pub refusals : Refusals-keep w
+  pub none-left-waiting : None-left-waiting w
   pub never-over : Never-over rs w
   pub accounted : (xs : List Call) (cs : List Command) → Accounted rs w xs cs
 

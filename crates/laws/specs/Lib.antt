@@ -1,3 +1,4 @@
 pub mod Ledger
 pub mod Laws
+pub mod Instances
 pub mod Strike

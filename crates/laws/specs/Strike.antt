@@ -12,6 +12,7 @@ use Rattle.std.specs.declared.option.Option.{Option}
 use Rattle.std.specs.declared.option.Option.the-variants.{Some, None}
 use Rattle.std.specs.declared.result.Result.{Result}
 use Rattle.std.specs.declared.result.Result.the-variants.{Ok, Err}
+use Rattle.number.specs.Writing.{write}
 use Rattle.command.specs.declared.mnemonic.Mnemonic.{Mnemonic}
 use Rattle.command.specs.Lines.{blank, apart, line-of, trimmed, parts}
 use Rattle.command.specs.Commands.{Field, Command, commands-of}
@@ -23,9 +24,9 @@ use Rattle.rules.specs.World.{World}
 use Rattle.rules.specs.Kinds.{among, error-commands}
 use Rattle.rules.specs.Refusals.{entry}
 use Rattle.rules.specs.Samples.{sample-open, said}
-use Rattle.rules.specs.Steps.{Outcome, refused, replied}
-use Rattle.rules.specs.Calls.{too-long, line-taken, ticks-call}
-use Rattle.rules.specs.Runs.{Call, line-sent, ticks-made, error-asked, called, run, report}
+use Rattle.rules.specs.Steps.{Outcome, refused, replied, all-replies}
+use Rattle.rules.specs.Calls.{too-long, line-taken, line-call, ticks-call}
+use Rattle.rules.specs.Runs.{Call, line-sent, ticks-made, error-asked, called, call-outcomes, run, report}
 
 -- ---- which are struck
 
@@ -167,8 +168,7 @@ without-columns c =
       letters = mapped field-without-column (c .letters);
       mnemonic = c .mnemonic;
       question = mapped field-without-column (c .question);
-      parameters = map field-without-column (c .parameters);
-    }
+      parameters = map field-without-column (c .parameters) }
 
 -- which command it was, and what is seen of it
 pub record Shown : Type 0 where
@@ -229,6 +229,16 @@ numbers-left m (x ∷ xs) [] = []
 numbers-left m (x ∷ xs) (n ∷ ns) = cond (m .lines 0 && long-line x) (numbers-left (later-marks m) xs ns) (n ∷ numbers-left (later-marks m) xs ns)
 
 -- ---- the laws
+
+-- What is shown is what the calls do: a line sent is the line call with a reply buffer of that size. The numbers agree, the world after
+-- it is the one that the run goes on from, and the bytes written are the replies of its commands, one behind the other.
+pub record Line-sent (w : World) (bytes buffer : List ℕ) : Type 0 where
+  pub number : line-call w bytes buffer .0 .number ≡ call-number w (line-sent bytes (length buffer))
+  pub world : line-call w bytes buffer .1 .0 ≡ called w (line-sent bytes (length buffer))
+  pub written : line-call w bytes buffer .1 .1 ≡ write buffer 0 (all-replies (call-outcomes w (line-sent bytes (length buffer)))) .1
+
+abbrev pub Lines-sent : Type 0
+Lines-sent = (w : World) (bytes buffer : List ℕ) → Line-sent w bytes buffer
 
 -- What striking does to a line, whatever is flagged: read again, it has the same texts between the same semicolons, but for those of the
 -- flagged commands; its commands are the others, the same but for their columns, in the same order; it is not longer; and where nothing
