@@ -115,10 +115,10 @@ pigeons zero (m ∷ ms) h low high =
 pigeons (suc n) ms h low high =
     let rest = without (suc n) ms in
     let r : length rest ≤ n = pigeons n rest (without-apart (suc n) ms h) (λ m e. low m (without-has (suc n) ms m e))
-        (λ m e.
-        let u = high m (without-has (suc n) ms m e) in
-        let ne : m ≡ suc n → ⊥ = λ q. without-gone (suc n) ms h (subst (λ j. T (has j rest)) q e) in
-        omega (arith, ne)) in
+    (λ m e.
+    let u = high m (without-has (suc n) ms m e) in
+    let ne : m ≡ suc n → ⊥ = λ q. without-gone (suc n) ms h (subst (λ j. T (has j rest)) q e) in
+    omega (arith, ne)) in
     let l = without-length (suc n) ms in
     omega arith
 

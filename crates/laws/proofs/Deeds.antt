@@ -139,6 +139,7 @@ formed-fine k n ms g =
     third true true false y z t = absurd t
     third true true true false z t = absurd t
     third true true true true false t = absurd t
+
     joined-there : T (there n (k .desk .groups) && not (in-use n (k .desk)) && can-join ms (k .desk)) → T (all-pass (λ m. there m (k .desk .axes)) ms)
     joined-there t = third (there n (k .desk .groups)) (not (in-use n (k .desk))) (leb 2 (length ms)) (leb (length ms) 12) _ t
 
@@ -176,24 +177,28 @@ does-fine k Mo c g p = tell-fine k (power-on (axis-named c) ∷ []) g (tt, tt) (
 does-fine k Mf c g p = tell-fine k (power-off (axis-named c) ∷ []) g (tt, tt) (tt, tt)
 does-fine k Pa c g p =
     let n = axis-named c in
-    starts-fine k (settings k n .own) (n ∷ []) (given c ∷ []) g
-    (record {
-      due = inr (ungrouped (k .desk .groups) n (p .alone .0), refl);
-      inside = record { low = le-of (p .limits .1 .0); high = le-of (p .limits .0) };
-      power = p .power .0;
-      low = there-low n (k .desk .axes) (p .axis-there .0);
-      high = subst (λ m. n ≤ m) (g .lengths) (there-high n (k .desk .axes) (p .axis-there .0));
-    }, tt)
+    starts-fine k (settings k n .own) (n ∷ []) (given c ∷ []) g (
+      record {
+        due = inr (ungrouped (k .desk .groups) n (p .alone .0), refl);
+        inside = record { low = le-of (p .limits .1 .0); high = le-of (p .limits .0) };
+        power = p .power .0;
+        low = there-low n (k .desk .axes) (p .axis-there .0);
+        high = subst (λ m. n ≤ m) (g .lengths) (there-high n (k .desk .axes) (p .axis-there .0));
+      },
+      tt,
+    )
 does-fine k Pr c g p =
     let n = axis-named c in
-    starts-fine k (settings k n .own) (n ∷ []) ((axis-at k n .target +ℤ given c) ∷ []) g
-    (record {
-      due = inr (ungrouped (k .desk .groups) n (p .alone .0), refl);
-      inside = record { low = le-of (p .limits .1 .0); high = le-of (p .limits .0) };
-      power = p .power .0;
-      low = there-low n (k .desk .axes) (p .axis-there .0);
-      high = subst (λ m. n ≤ m) (g .lengths) (there-high n (k .desk .axes) (p .axis-there .0));
-    }, tt)
+    starts-fine k (settings k n .own) (n ∷ []) ((axis-at k n .target +ℤ given c) ∷ []) g (
+      record {
+        due = inr (ungrouped (k .desk .groups) n (p .alone .0), refl);
+        inside = record { low = le-of (p .limits .1 .0); high = le-of (p .limits .0) };
+        power = p .power .0;
+        low = there-low n (k .desk .axes) (p .axis-there .0);
+        high = subst (λ m. n ≤ m) (g .lengths) (there-high n (k .desk .axes) (p .axis-there .0));
+      },
+      tt,
+    )
 does-fine k St c g p = tell-fine k (stop (axis-named c) ∷ []) g (tt, tt) (tt, tt)
 does-fine k Dh c g p =
     let n = axis-named c in

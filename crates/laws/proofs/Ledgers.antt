@@ -155,9 +155,9 @@ alike-send false g zs k = alike-drive k _
 
 -- the settings of one axis
 axis-kept : (l m : Ledger) (k : Core) (f : AxisSettings → AxisSettings) (n : ℕ) → T (there n (k .desk .axes)) → Kept l k → m .groups ≡ l .groups → Balanced m → In-one-at-most m
-  → ((j : ℕ) → row-or no-axis j (alter f n (k .desk .axes)) .left ≡ m .left j) → ((j : ℕ) → row-or no-axis j (alter f n (k .desk .axes)) .right ≡ m .right j)
-  → ((j : ℕ) → row-or no-axis j (alter f n (k .desk .axes)) .own ≡ m .own j) → ((g : ℕ) → l .members g ≡ m .members g) → ((g : ℕ) → l .shared g ≡ m .shared g)
-  → Kept m (with-desk (on-axis f n (k .desk) .1) k)
+    → ((j : ℕ) → row-or no-axis j (alter f n (k .desk .axes)) .left ≡ m .left j) → ((j : ℕ) → row-or no-axis j (alter f n (k .desk .axes)) .right ≡ m .right j)
+    → ((j : ℕ) → row-or no-axis j (alter f n (k .desk .axes)) .own ≡ m .own j) → ((g : ℕ) → l .members g ≡ m .members g) → ((g : ℕ) → l .shared g ≡ m .shared g)
+    → Kept m (with-desk (on-axis f n (k .desk) .1) k)
 axis-kept l m k f n t h e b s left right own ms ps =
     subst (λ d. Kept m (with-desk d k)) (sym (picked-so (there n (k .desk .axes)) (true, record { axes = alter f n (k .desk .axes); groups = k .desk .groups }) (false, k .desk) t))
     (record {
@@ -198,9 +198,9 @@ right-kept l k n z t h =
 
 -- one group
 group-kept : (l m : Ledger) (k : Core) (f : GroupModel → GroupModel) (g : ℕ) → Kept l k → m .groups ≡ l .groups → Balanced m → In-one-at-most m
-  → ((n : ℕ) → l .left n ≡ m .left n) → ((n : ℕ) → l .right n ≡ m .right n) → ((n : ℕ) → l .own n ≡ m .own n)
-  → ((j : ℕ) → row-or free-group j (alter f g (k .desk .groups)) .members ≡ m .members j) → ((j : ℕ) → row-or free-group j (alter f g (k .desk .groups)) .profile ≡ m .shared j)
-  → Kept m (with-desk (at-group f g (k .desk)) k)
+    → ((n : ℕ) → l .left n ≡ m .left n) → ((n : ℕ) → l .right n ≡ m .right n) → ((n : ℕ) → l .own n ≡ m .own n)
+    → ((j : ℕ) → row-or free-group j (alter f g (k .desk .groups)) .members ≡ m .members j) → ((j : ℕ) → row-or free-group j (alter f g (k .desk .groups)) .profile ≡ m .shared j)
+    → Kept m (with-desk (at-group f g (k .desk)) k)
 group-kept l m k f g h e b s left right own ms ps =
     record {
       agree = record { left = λ n. h .agree .left n ∙ left n; right = λ n. h .agree .right n ∙ right n; own = λ n. h .agree .own n ∙ own n; members = ms; shared = ps };

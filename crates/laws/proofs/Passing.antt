@@ -114,10 +114,10 @@ five true true true true false h = absurd h
 
 -- what x01 asks of the parameter, one by one
 pub parameter-parts : (k : Core) (m : Mnemonic) (n : ℕ) (z : ℤ) → T (R.axis-parameter-ok k m n z) → (
-  T (not (among (Ac ∷ Ag ∷ []) m) || ltZ (pos 0) z)
-  × (T (not (is m Fp) || R.whole-within 0 6 z)
-  × (T (not (is m Dh) || (leZ (settings k n .left) z && leZ z (settings k n .right)))
-  × (T (not (is m Sl) || (leZ z (axis-at k n .position) && R.reachable k n z)) × T (not (is m Sr) || (leZ (axis-at k n .position) z && R.reachable k n z))))))
+    T (not (among (Ac ∷ Ag ∷ []) m) || ltZ (pos 0) z)
+    × (T (not (is m Fp) || R.whole-within 0 6 z)
+    × (T (not (is m Dh) || (leZ (settings k n .left) z && leZ z (settings k n .right)))
+    × (T (not (is m Sl) || (leZ z (axis-at k n .position) && R.reachable k n z)) × T (not (is m Sr) || (leZ (axis-at k n .position) z && R.reachable k n z))))))
 parameter-parts k m n z h =
     five (not (among (Ac ∷ Ag ∷ []) m) || ltZ (pos 0) z) (not (is m Fp) || R.whole-within 0 6 z) (not (is m Dh) || (leZ (settings k n .left) z && leZ z (settings k n .right)))
     (not (is m Sl) || (leZ z (axis-at k n .position) && R.reachable k n z)) (not (is m Sr) || (leZ (axis-at k n .position) z && R.reachable k n z)) h

@@ -178,7 +178,8 @@ text-left : (w : World) (marked : ℕ → Bool) (blanks : Bool) (line : List ℕ
 text-left w marked blanks line true h =
     record {
       same = ap (λ l. text-shown (w .core) l (too-long l)) (line-kept blanks line) ∙ ap (text-shown (w .core) line) h;
-      ends = ap (λ l. text-next (w .core) l (too-long l)) (line-kept blanks line) ∙ ap (text-next (w .core) line) h }
+      ends = ap (λ l. text-next (w .core) l (too-long l)) (line-kept blanks line) ∙ ap (text-next (w .core) line) h;
+    }
 text-left w marked blanks line false h =
     let k = w .core in
     let cs = map view (commands-of line) in
@@ -188,7 +189,8 @@ text-left w marked blanks line false h =
     let l = left k cs marked in
     record {
       same = ap (text-shown k s) (short-still blanks bs line h) ∙ ap (all-shown k) (struck-commands blanks bs line) ∙ ap (λ fs. all-shown k (unflagged fs cs)) e ∙ l .same ∙ ap (λ fs. unflagged fs (all-shown k cs)) (sym e);
-      ends = ap (text-next k s) (short-still blanks bs line h) ∙ ap (all-next k) (struck-commands blanks bs line) ∙ ap (λ fs. all-next k (unflagged fs cs)) e ∙ l .ends }
+      ends = ap (text-next k s) (short-still blanks bs line h) ∙ ap (all-next k) (struck-commands blanks bs line) ∙ ap (λ fs. all-next k (unflagged fs cs)) e ∙ l .ends;
+    }
 
 -- ---- a struck call
 

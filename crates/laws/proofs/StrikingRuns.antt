@@ -27,9 +27,9 @@ alike-one w v m x xs left seen ns e later false h =
     let l = call-left w (m .commands 0) (m .blanks) x in
     let a = later (called v y) (core-call w x ∙ sym (l .ends) ∙ ap (λ k. call-next k y) e ∙ sym (core-call v y)) in
     let here : shown-all (commands-in y) (call-outcomes v y) ≡ unflagged bs (shown-all (commands-in x) (call-outcomes w x)) =
-      seen-call v y ∙ ap (λ k. call-shown k y) (sym e) ∙ l .same ∙ ap (unflagged bs) (sym (seen-call w x)) in
+    seen-call v y ∙ ap (λ k. call-shown k y) (sym e) ∙ l .same ∙ ap (unflagged bs) (sym (seen-call w x)) in
     let number : call-number v y ≡ call-number w x =
-      number-core v y ∙ ap (λ k. call-number (quiet-world k) y) (sym e) ∙ l .number ∙ sym (number-core w x) in
+    number-core v y ∙ ap (λ k. call-number (quiet-world k) y) (sym e) ∙ l .number ∙ sym (number-core w x) in
     record { same = (λ i. here i ∷ a .same i); numbers = (λ i. number i ∷ a .numbers i); ends = a .ends }
 
 alike : (w v : World) (m : Marks) (xs : List Call) → w .core ≡ v .core → Alike w v xs (strike m xs (report w xs)) (shown-left m xs (report w xs)) (numbers-left m xs (call-numbers w xs))

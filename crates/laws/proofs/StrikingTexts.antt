@@ -261,11 +261,11 @@ behind-short blanks bs (t ∷ ts) =
     elim (all-blank t) as (λ b. length (behind (cond b (t ∷ struck-texts blanks bs ts) (cond (first-flag bs) (without-command blanks t) t ∷ struck-texts blanks (later-flags bs) ts))) ≤ length (behind (t ∷ ts))) [
       | true ↦ let a = length-append t (behind (struck-texts blanks bs ts)) in let h = behind-short blanks bs ts in omega arith
       | false ↦
-        let u = cond (first-flag bs) (without-command blanks t) t in
-        let a = length-append u (behind (struck-texts blanks (later-flags bs) ts)) in
-        let h = behind-short blanks (later-flags bs) ts in
-        let s = without-short blanks (first-flag bs) t in
-        omega arith
+          let u = cond (first-flag bs) (without-command blanks t) t in
+          let a = length-append u (behind (struck-texts blanks (later-flags bs) ts)) in
+          let h = behind-short blanks (later-flags bs) ts in
+          let s = without-short blanks (first-flag bs) t in
+          omega arith
     ]
 
 together-short : (blanks : Bool) (bs : List Bool) (ts : List (List ℕ)) → length (together (struck-texts blanks bs ts)) ≤ length (together ts)
@@ -275,11 +275,11 @@ together-short blanks bs (t ∷ ts) =
     elim (all-blank t) as (λ b. length (together (cond b (t ∷ struck-texts blanks bs ts) (cond (first-flag bs) (without-command blanks t) t ∷ struck-texts blanks (later-flags bs) ts))) ≤ length (together (t ∷ ts))) [
       | true ↦ let a = length-append t (behind (struck-texts blanks bs ts)) in let h = behind-short blanks bs ts in omega arith
       | false ↦
-        let u = cond (first-flag bs) (without-command blanks t) t in
-        let a = length-append u (behind (struck-texts blanks (later-flags bs) ts)) in
-        let h = behind-short blanks (later-flags bs) ts in
-        let s = without-short blanks (first-flag bs) t in
-        omega arith
+          let u = cond (first-flag bs) (without-command blanks t) t in
+          let a = length-append u (behind (struck-texts blanks (later-flags bs) ts)) in
+          let h = behind-short blanks (later-flags bs) ts in
+          let s = without-short blanks (first-flag bs) t in
+          omega arith
     ]
 
 pub line-short : (blanks : Bool) (bs : List Bool) (line : List ℕ) → length (struck-line blanks bs line) ≤ length line
@@ -309,7 +309,7 @@ struck-read blanks bs t ts h =
     elim (all-blank t) as (λ b. texts (together (cond b (t ∷ struck-texts blanks bs ts) (cond (first-flag bs) (without-command blanks t) t ∷ struck-texts blanks (later-flags bs) ts))) ≡ cond b (t ∷ struck-texts blanks bs ts) (cond (first-flag bs) (without-command blanks t) t ∷ struck-texts blanks (later-flags bs) ts)) [
       | true ↦ texts-together t (struck-texts blanks bs ts) (and-from _ _ (p .0) (struck-free 59 blanks bs ts (p .1)))
       | false ↦ texts-together (cond (first-flag bs) (without-command blanks t) t) (struck-texts blanks (later-flags bs) ts)
-        (and-from _ _ (without-free 59 blanks (first-flag bs) t (p .0)) (struck-free 59 blanks (later-flags bs) ts (p .1)))
+          (and-from _ _ (without-free 59 blanks (first-flag bs) t (p .0)) (struck-free 59 blanks (later-flags bs) ts (p .1)))
     ]
 
 -- they are the commands left, but for their columns
@@ -324,4 +324,5 @@ lines-struck blanks bs line =
       texts-left = struck-read blanks bs (up-to 59 line) (map (λ p. p .1) (later 59 1 line)) (texts-free line);
       commands-left = struck-commands blanks bs line;
       short = line-short blanks bs line;
-      untouched = line-kept blanks line }
+      untouched = line-kept blanks line;
+    }

@@ -109,8 +109,8 @@ accepted-only TickCount e = omega (arith, e)
 accepted-only NoSuchError e = omega (arith, e)
 
 opening : (w : World) (rs : List SetupRecord) (a b : Bool) → (T a → T b → Lawful rs (opened rs (w .core .drive)))
-  → cond {A = Answer × World} a (cond {A = Answer × World} b (accepting [], opened rs (w .core .drive)) (refusing OutsideLimits, w)) (refusing DriveMismatch, w) .0 .number ≡ 0
-  → Lawful rs (cond {A = Answer × World} a (cond {A = Answer × World} b (accepting [], opened rs (w .core .drive)) (refusing OutsideLimits, w)) (refusing DriveMismatch, w) .1)
+    → cond {A = Answer × World} a (cond {A = Answer × World} b (accepting [], opened rs (w .core .drive)) (refusing OutsideLimits, w)) (refusing DriveMismatch, w) .0 .number ≡ 0
+    → Lawful rs (cond {A = Answer × World} a (cond {A = Answer × World} b (accepting [], opened rs (w .core .drive)) (refusing OutsideLimits, w)) (refusing DriveMismatch, w) .1)
 opening w rs true true f e = f tt tt
 opening w rs true false f e = absurd (accepted-only OutsideLimits e)
 opening w rs false b f e = absurd (accepted-only DriveMismatch e)

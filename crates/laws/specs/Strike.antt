@@ -168,7 +168,8 @@ without-columns c =
       letters = mapped field-without-column (c .letters);
       mnemonic = c .mnemonic;
       question = mapped field-without-column (c .question);
-      parameters = map field-without-column (c .parameters) }
+      parameters = map field-without-column (c .parameters);
+    }
 
 -- which command it was, and what is seen of it
 pub record Shown : Type 0 where

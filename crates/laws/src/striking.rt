@@ -8,5 +8,4 @@ pub fn striking_holds()
     ensures lines { λ _. ⌜ Lines-struck ⌝ }
     ensures law { λ _. ⌜ Striking ⌝ }
     ensures sample { λ _. ⌜ Striking-sample ⌝ }
-{
-}
+{}
