@@ -6,15 +6,12 @@ use mathlib.Core.Logic.{_⊎_, inl, inr}
 use Prim.Native.Nat.{ℕ, zero, suc, _≤_, _<_}
 use native.Mathlib.Omega.{arith}
 use native.Mathlib.Nat.{le-of-suc-le-suc, not-suc-le-zero}
-use lib.Dec.{T, eqb, leb, ltb, eqb→eq, eqb-refl, leb→le, le→leb}
-use lib.IntN.{ℤ}
+use lib.Dec.{T, eqb, leb, eqb→eq, eqb-refl, leb→le}
 use lib.ListN.{length, getD}
-use Rattle.std.specs.declared.option.Option.{Option}
 use Rattle.std.specs.declared.option.Option.the-variants.{Some, None}
 use Rattle.std.specs.shelf.Lists.{All}
 use Rattle.std.specs.shelf.Lawful.{all-pass}
-use Rattle.drive.specs.declared.profile.Profile.{Profile}
-use Rattle.drive.specs.Model.{Axis, Change, at, at-axis, start-axis, stop-axis, power-on-axis, power-off-axis, set-position-axis, tick-axis, tick-axes}
+use Rattle.drive.specs.Model.{Axis, Change, at, at-axis, start-axis, stop-axis, power-on-axis, power-off-axis, set-position-axis, tick-axis}
 use Rattle.drive.specs.Calls.{Told, power-on, power-off, start, stop, set-position, tick, done, replay}
 use Rattle.queue.specs.declared.error_entry.ErrorEntry.{ErrorEntry}
 use Rattle.groups.specs.Groups.{has}
@@ -98,10 +95,6 @@ or-case false b f g h = g h
 pub true-of : (b : Bool) → T b → b ≡ true
 true-of true h = refl
 true-of false h = absurd h
-
-pub false-of : (b : Bool) → T (not b) → b ≡ false
-false-of true h = absurd h
-false-of false h = refl
 
 pub not-both : (b : Bool) → T (not b) → T b → ⊥
 not-both true h k = h

@@ -1,18 +1,15 @@
 -- The ledger's counts and groups, and the axes that a command names.
 use mathlib.Core.Path.{_≡_, refl, sym, ap, ap₂, _∙_, subst}
-use mathlib.Core.Bool.{Bool, true, false, cond, not, _&&_, _||_}
-use mathlib.Core.List.{List, [], _∷_, _++_, map}
-use mathlib.Core.Logic.{_⊎_, inl, inr}
-use Prim.Native.Nat.{ℕ, zero, suc, _+_, _/_, _%_, _≤_, _<_}
+use mathlib.Core.Bool.{Bool, true, false, cond, not, _||_}
+use mathlib.Core.List.{List, [], _∷_, map}
+use Prim.Native.Nat.{ℕ, zero, suc, _≤_}
 use native.Mathlib.Omega.{arith}
-use lib.IntN.{ℤ, pos, negsuc}
-use lib.Dec.{T, leb, ltb, eqb, leb→le, le→leb, eqb→eq, eqb-refl}
+use lib.Dec.{T, eqb, eqb→eq, eqb-refl}
 use lib.ListN.{length}
 use Rattle.std.proofs.shelf.Ways.{tells}
-use Rattle.std.proofs.shelf.Tests.{true≢false, ne-eqb}
+use Rattle.std.proofs.shelf.Tests.{ne-eqb}
 use Rattle.std.specs.declared.option.Option.{Option}
 use Rattle.std.specs.declared.option.Option.the-variants.{Some, None}
-use Rattle.std.specs.shelf.Lists.{All}
 use Rattle.std.specs.shelf.Lawful.{all-pass}
 use Rattle.drive.specs.declared.profile.Profile.{Profile}
 use Rattle.command.specs.Commands.{Field}
@@ -22,10 +19,10 @@ use Rattle.desk.specs.declared.axis_settings.AxisSettings.{AxisSettings}
 use Rattle.desk.specs.Tables.{there, row-or, alter}
 use Rattle.desk.specs.Axes.{own-of, smallest-own}
 use Rattle.rules.specs.World.{Core, axis-count, grouped}
-use Rattle.rules.specs.Refusals.{value, units, whole-units, whole-within, between, number-or, each-axis, each-new, each-free}
+use Rattle.rules.specs.Refusals.{value, units, whole-units, between, number-or, each-axis, each-new, each-free}
 use Rattle.laws.specs.Ledger.{Ledger, put, taken-in, let-go, smallest}
 use Rattle.laws.specs.Laws.{Balanced, In-one-at-most}
-use Rattle.laws.proofs.Basics.{Passed, alter-keeps, alter-gives, and-l, and-r, and-both, has-case, has-first, has-later, not-both, true-of, false-of}
+use Rattle.laws.proofs.Basics.{Passed, alter-keeps, alter-gives, and-both, has-case, has-first, has-later, not-both, true-of}
 
 -- ---- tables and functions
 

@@ -1,41 +1,40 @@
 -- What holds of every accepted command.
-use mathlib.Core.Path.{_≡_, refl, sym, ap, _∙_, subst}
-use mathlib.Core.Bool.{Bool, true, false, cond, not, _&&_, _||_}
+use mathlib.Core.Path.{_≡_, refl, sym, subst}
+use mathlib.Core.Bool.{Bool, true, false, not, _&&_, _||_}
 use mathlib.Core.List.{List, [], _∷_, _++_, map}
-use mathlib.Core.Logic.{_⊎_, inl, inr}
-use Prim.Native.Nat.{ℕ, zero, suc, _≤_, _<_, min}
+use mathlib.Core.Logic.{inl, inr}
+use Prim.Native.Nat.{ℕ, _≤_}
 use native.Mathlib.Omega.{arith}
-use lib.IntN.{ℤ, pos, natAbs, negℤ, _+ℤ_}
-use lib.Signed.{_≤ℤ_, leZ, ltZ}
+use lib.IntN.{ℤ, natAbs, _+ℤ_}
+use lib.Signed.{_≤ℤ_, leZ}
 use lib.Dec.{T, leb, ltb, eqb, leb→le}
 use lib.ListN.{length}
 use Rattle.std.proofs.shelf.Signed.{ints}
-use Rattle.std.specs.shelf.Lists.{All}
 use Rattle.std.specs.shelf.Lawful.{all-pass}
 use Rattle.std.specs.declared.option.Option.{Option}
 use Rattle.std.specs.declared.option.Option.the-variants.{Some, None}
 use Rattle.drive.specs.declared.profile.Profile.{Profile}
 use Rattle.drive.specs.Model.{Axis, at-rest}
-use Rattle.drive.specs.Calls.{Told, power-on, power-off, start, stop, set-position, tick, replay}
+use Rattle.drive.specs.Calls.{Told, power-on, power-off, stop, set-position}
 use Rattle.drive.proofs.Numbers.{inside-is}
 use Rattle.command.specs.declared.mnemonic.Mnemonic.{Mnemonic}
 use Rattle.command.specs.declared.mnemonic.Mnemonic.the-variants.{Va, Ac, Ag, Sl, Sr, Fp, Mo, Mf, Pa, Pr, St, Dh, Ws, Id, Tp, Dp, Md, Hn, Hx, Hv, Ha, Hd, Ho, Hf, Hl, Hp, Hw, Ab, Wt, Tb, Te}
 use Rattle.command.specs.Commands.{Command}
 use Rattle.groups.specs.Groups.{GroupModel, free-group, with-profile, with-waypoints, has}
-use Rattle.groups.specs.Profiles.{no-profile, velocity-in, acceleration-in, deceleration-in, lesser, least}
+use Rattle.groups.specs.Profiles.{velocity-in, acceleration-in, deceleration-in, lesser, least}
 use Rattle.desk.specs.declared.axis_settings.AxisSettings.{AxisSettings}
-use Rattle.desk.specs.Tables.{there, row-or, alter}
+use Rattle.desk.specs.Tables.{there, row-or}
 use Rattle.desk.specs.Axes.{no-axis, with-own, with-left, with-right, with-digits, own-of, smallest-own}
-use Rattle.desk.specs.Desks.{DeskModel, on-axis, at-group, on-group, in-use, can-join, formed, dissolved, waypoint-queued, waypoints-emptied, digits-set}
-use Rattle.rules.specs.World.{Core, settings, group, members, axis-at, axis-count, powered, resting, numbers, with-desk, with-drive}
-use Rattle.rules.specs.Refusals.{asking, axis-named, group-named, names-all, given, values, units, whole-value, tests-of, tests, refused-by}
-use Rattle.rules.specs.Deeds.{Trail, quiet, tell, note, and-then, starts, all-rest, waits, still, group-still, send, all-emptied, does, unless-asking, performed, perform}
+use Rattle.desk.specs.Desks.{DeskModel, on-axis, on-group, in-use, can-join, formed, dissolved, waypoints-emptied, digits-set}
+use Rattle.rules.specs.World.{Core, settings, group, members, axis-at, axis-count, powered, resting, numbers}
+use Rattle.rules.specs.Refusals.{asking, axis-named, group-named, names-all, given, values, units, whole-value, tests-of, tests}
+use Rattle.rules.specs.Deeds.{Trail, tell, note, all-rest, waits, still, group-still, send, all-emptied, does, unless-asking, performed}
 use Rattle.rules.specs.World.{World}
 use Rattle.rules.specs.Steps.{Step, step, settled, accepted}
 use Rattle.laws.specs.Laws.{AtMost}
 use Rattle.laws.proofs.Basics.{alter-keeps, picked, picked-when, all-append, all-map, all-pass-has, has-case, and-l, and-r, there-low, there-high, judged, Passed}
 use Rattle.laws.proofs.Good.{most, Inside, GoodAxis, Fit, GoodGroup, Good, Allowed, le-of, at-most-refl, at-most-trans, axis-good, group-good, on-group-good, waypoints-good, free-good, emptied-good, all-emptied-good}
-use Rattle.laws.proofs.Trails.{Fine, quiet-fine, note-fine, then-fine, No-start, tell-fine, starts-fine, group-proper, Calm, beats-calm, wait-calm}
+use Rattle.laws.proofs.Trails.{Fine, quiet-fine, note-fine, then-fine, No-start, tell-fine, starts-fine, group-proper, beats-calm, wait-calm}
 use Rattle.laws.proofs.Passing.{Passing, passing, ungrouped, figure-le, parameter-parts, none-below-has, each-on, within-fit}
 
 -- ---- the settings of an axis

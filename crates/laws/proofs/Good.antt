@@ -1,28 +1,26 @@
 -- What holds at every moment of a run.
-use mathlib.Core.Path.{_≡_, refl, sym, ap, _∙_, subst}
-use mathlib.Core.Bool.{Bool, true, false, cond, not, _&&_, _||_}
-use mathlib.Core.List.{List, [], _∷_, _++_, map}
-use Prim.Native.Nat.{ℕ, zero, suc, _≤_, _<_}
+use mathlib.Core.Path.{_≡_, refl, sym, _∙_, subst}
+use mathlib.Core.List.{List, [], _∷_}
+use Prim.Native.Nat.{ℕ, _≤_}
 use native.Mathlib.Omega.{arith}
-use lib.IntN.{ℤ, pos, negsuc, natAbs, negℤ}
+use lib.IntN.{ℤ, pos, natAbs, negℤ}
 use lib.Signed.{_≤ℤ_, leZ}
-use lib.Dec.{T, leb, ltb, eqb}
-use lib.ListN.{length, getD, drop}
-use Rattle.std.proofs.shelf.Signed.{ints, by-ltZ}
+use lib.Dec.{T, leb}
+use lib.ListN.{length, drop}
+use Rattle.std.proofs.shelf.Signed.{ints}
 use Rattle.std.specs.shelf.Lists.{All}
 use Rattle.drive.specs.declared.profile.Profile.{Profile}
 use Rattle.drive.specs.Model.{Axis, Fair, start-axis, stop-axis, power-on-axis, power-off-axis, set-position-axis, tick-axis, at-rest}
 use Rattle.drive.specs.Calls.{Told, power-on, power-off, start, stop, set-position, tick, replay}
-use Rattle.drive.proofs.Numbers.{inside-is, is-inside}
+use Rattle.drive.proofs.Numbers.{is-inside}
 use Rattle.groups.specs.Groups.{GroupModel, free-group, with-waypoints, has}
-use Rattle.groups.specs.Profiles.{no-profile}
 use Rattle.desk.specs.declared.axis_settings.AxisSettings.{AxisSettings}
 use Rattle.desk.specs.Tables.{there, row-or, alter}
 use Rattle.desk.specs.Axes.{no-axis}
 use Rattle.desk.specs.Desks.{on-axis, at-group, on-group, in-use, waypoints-emptied}
 use Rattle.rules.specs.Deeds.{all-emptied}
-use Rattle.rules.specs.World.{Core, settings, group, members, axis-at, no-drive-axis, with-desk, with-drive}
-use Rattle.laws.specs.Laws.{AtMost, Bounded}
+use Rattle.rules.specs.World.{Core, settings, group, members, axis-at, with-desk, with-drive}
+use Rattle.laws.specs.Laws.{AtMost}
 use Rattle.laws.proofs.Basics.{alter-length, alter-keeps, map-keeps, Touches, effect, replay-keeps, replay-count, picked, picked-when, all-weaker, has-first, has-later}
 
 -- the maxima of an axis, as figures

@@ -1,9 +1,6 @@
 -- The runs in which each law has something to say, computed.
-use mathlib.Core.Path.{_≡_, refl}
-use Prim.Native.Nat.{ℕ, _≤_}
+use mathlib.Core.Path.{refl}
 use native.Mathlib.Omega.{arith}
-use lib.IntN.{ℤ, pos, natAbs}
-use lib.Signed.{_≤ℤ_}
 use lib.ListN.{replicate}
 use Rattle.std.proofs.shelf.Signed.{ints}
 use Rattle.std.specs.shelf.Lists.{joined}

@@ -2,21 +2,20 @@
 use mathlib.Core.Path.{_≡_, refl, sym, ap, _∙_, subst}
 use mathlib.Core.Bool.{Bool, true, false, cond, not, _&&_, _||_}
 use mathlib.Core.List.{List, [], _∷_, _++_, map}
-use mathlib.Core.Logic.{_⊎_, inl, inr}
-use Prim.Native.Nat.{ℕ, zero, suc, _+_, _≤_, _<_}
+use mathlib.Core.Logic.{inl, inr}
+use Prim.Native.Nat.{ℕ, zero, suc, _+_, _≤_}
 use native.Mathlib.Omega.{arith}
-use lib.IntN.{ℤ, natAbs, _+ℤ_}
-use lib.Dec.{T, leb, ltb, eqb, leb→le, le→leb, eqb→eq, eqb-refl}
-use lib.ListN.{length, drop}
+use lib.IntN.{ℤ}
+use lib.Dec.{T, leb, ltb, eqb, le→leb, eqb→eq}
+use lib.ListN.{length}
 use Rattle.std.proofs.shelf.Tests.{lt-ltb, ne-eqb}
 use Rattle.std.specs.declared.option.Option.{Option}
 use Rattle.std.specs.declared.option.Option.the-variants.{Some, None}
 use Rattle.std.specs.declared.result.Result.{Result}
 use Rattle.std.specs.declared.result.Result.the-variants.{Ok, Err}
-use Rattle.std.specs.shelf.Lawful.{all-pass}
 use Rattle.drive.specs.declared.profile.Profile.{Profile}
 use Rattle.drive.specs.Model.{Axis}
-use Rattle.drive.specs.Calls.{Told, power-on, power-off, start, stop, set-position, tick, replay}
+use Rattle.drive.specs.Calls.{power-off, stop}
 use Rattle.command.specs.declared.mnemonic.Mnemonic.{Mnemonic}
 use Rattle.command.specs.declared.mnemonic.Mnemonic.the-variants.{Va, Ac, Ag, Sl, Sr, Fp, Mo, Mf, Pa, Pr, St, Dh, Ws, Id, Tp, Dp, Md, Hn, Hx, Hv, Ha, Hd, Ho, Hf, Hl, Hp, Hw, Ab, Wt, Tb, Te}
 use Rattle.command.specs.Commands.{Command, prefix-number, commands-of}
@@ -27,21 +26,21 @@ use Rattle.groups.specs.Profiles.{no-profile, velocity-in, acceleration-in, dec
 use Rattle.desk.specs.declared.axis_settings.AxisSettings.{AxisSettings}
 use Rattle.desk.specs.Tables.{there, row-or, alter}
 use Rattle.desk.specs.Axes.{no-axis, with-own, with-left, with-right, with-digits, smallest-own}
-use Rattle.desk.specs.Desks.{DeskModel, on-axis, at-group, on-group, in-use, can-join, formed, dissolved, waypoint-queued, waypoints-emptied, digits-set}
-use Rattle.rules.specs.World.{Core, World, settings, group, members, axis-at, axis-count, group-count, grouped, numbers, with-desk, with-drive}
+use Rattle.desk.specs.Desks.{DeskModel, on-axis, at-group, on-group, in-use, can-join, formed, dissolved, digits-set}
+use Rattle.rules.specs.World.{Core, World, settings, group, members, axis-count, group-count, grouped, numbers, with-desk, with-drive}
 use Rattle.rules.specs.Refusals as R
-use Rattle.rules.specs.Refusals.{where-so, needs, entry, asking, number-or, axis-named, group-named, names-all, given, values, units, whole-value, tests-of, tests, each-axis, each-new, each-free}
-use Rattle.rules.specs.Deeds.{Trail, quiet, tell, note, and-then, starts, all-rest, waits, still, group-still, send, all-emptied, beats, does, unless-asking, performed, perform}
-use Rattle.rules.specs.Steps.{Step, step, settled, accepted, run-commands}
-use Rattle.rules.specs.Calls.{matches, too-long, line-world, line-taken, ticks-call}
+use Rattle.rules.specs.Refusals.{where-so, needs, entry, asking, number-or, axis-named, group-named, names-all, given, values, units, whole-value, tests-of, tests, each-axis, each-new}
+use Rattle.rules.specs.Deeds.{tell, all-rest, waits, still, group-still, send, all-emptied, beats, does, unless-asking, performed}
+use Rattle.rules.specs.Steps.{step, settled, accepted, run-commands}
+use Rattle.rules.specs.Calls.{matches, too-long, line-world, line-taken}
 use Rattle.rules.specs.Runs.{Call, line-sent, ticks-made, error-asked, after-line, called, run}
-use Rattle.laws.specs.Ledger.{Ledger, put, own-entered, left-entered, right-entered, shared-entered, taken-in, let-go, smallest, group-meant, figure, enter, enter-unless, enter-known, feed, ledger, due, in-one}
+use Rattle.laws.specs.Ledger.{Ledger, own-entered, left-entered, right-entered, shared-entered, taken-in, let-go, smallest, group-meant, figure, enter, enter-unless, enter-known, feed, ledger, due}
 use Rattle.laws.specs.Laws.{state, was-refused, protocol, line-protocol, taken-protocol, call-protocol, calls-protocol, Agree, Balanced, In-one-at-most}
-use Rattle.laws.proofs.Basics.{alter-keeps, alter-length, map-keeps, map-count, not-both, picked, picked-so, Passed, passed-l, passed-r, judged, all-pass-has, and-l, and-r, and-both, there-low, there-high, true-of, false-of}
+use Rattle.laws.proofs.Basics.{alter-keeps, alter-length, map-keeps, map-count, not-both, picked, picked-so, Passed, passed-l, passed-r, judged, all-pass-has, and-l, and-both, there-low, there-high}
 use Rattle.laws.proofs.Good.{Good}
-use Rattle.laws.proofs.Trails.{Same, Due, ProperStart, Calm, beats-calm, wait-calm}
+use Rattle.laws.proofs.Trails.{Same, ProperStart, beats-calm, wait-calm}
 use Rattle.laws.proofs.Passing.{Passing, passing, ungrouped}
-use Rattle.laws.proofs.Runs.{step-good, beats-good, commands-keep, call-keeps}
+use Rattle.laws.proofs.Runs.{step-good, beats-good, call-keeps}
 use Rattle.laws.proofs.Counts.{row-put, row-same, let-go-balanced, let-go-single, taken-in-balanced, taken-in-single, in-none, smallest-same, pigeons, names-there, names-apart, names-free}
 
 -- what holds between ledger and desk
@@ -85,9 +84,6 @@ alike-drive k xs = record { left = λ n. refl; right = λ n. refl; own = λ n. r
 
 alike-refl : (k : Core) → Alike k k
 alike-refl k = record { left = λ n. refl; right = λ n. refl; own = λ n. refl; members = λ g. refl; shared = λ g. refl; groups = refl; axes = refl }
-
-alike-trans : (i j k : Core) → Alike i j → Alike j k → Alike i k
-alike-trans i j k a b = record { left = λ n. b .left n ∙ a .left n; right = λ n. b .right n ∙ a .right n; own = λ n. b .own n ∙ a .own n; members = λ g. b .members g ∙ a .members g; shared = λ g. b .shared g ∙ a .shared g; groups = b .groups ∙ a .groups; axes = b .axes ∙ a .axes }
 
 pub alike-same : (j k : Core) → Same j k → Alike j k
 alike-same j k s =

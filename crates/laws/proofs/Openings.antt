@@ -1,28 +1,27 @@
 -- The state after an opening.
 use mathlib.Core.Path.{_≡_, refl, sym, ap, _∙_, subst}
-use mathlib.Core.Bool.{Bool, true, false, cond, not, _&&_, _||_}
-use mathlib.Core.List.{List, [], _∷_, _++_, map}
+use mathlib.Core.Bool.{_&&_}
+use mathlib.Core.List.{List, [], _∷_, map}
 use mathlib.Core.Logic.{_⊎_, inl, inr}
 use Prim.Native.Nat.{ℕ, zero, suc, _+_, _/_, _≤_, _<_}
 use native.Mathlib.Omega.{arith}
-use lib.IntN.{ℤ, pos, natAbs, negℤ}
+use lib.IntN.{ℤ}
 use lib.Signed.{_≤ℤ_, leZ}
-use lib.Dec.{T, leb, eqb, leb→le, eqb-refl}
+use lib.Dec.{T, leb→le}
 use lib.ListN.{length, getD, replicate}
 use Rattle.std.proofs.shelf.Signed.{ints}
 use Rattle.std.proofs.shelf.Lists.{getD-past}
 use Rattle.std.proofs.shelf.Tests.{cases-lt}
 use Rattle.std.specs.shelf.Lists.{All}
-use Rattle.drive.specs.declared.profile.Profile.{Profile}
-use Rattle.drive.specs.Model.{Axis, Fair, SoundAxis, Sound, power-off-axis}
-use Rattle.drive.specs.Calls.{Told, power-off, done, replay}
+use Rattle.drive.specs.Model.{Axis, SoundAxis, Sound, power-off-axis}
+use Rattle.drive.specs.Calls.{power-off, done, replay}
 use Rattle.drive.proofs.Numbers.{inside-is}
 use Rattle.setup.specs.declared.record.SetupRecord.{SetupRecord}
-use Rattle.groups.specs.Groups.{GroupModel, free-group, has}
+use Rattle.groups.specs.Groups.{free-group, has}
 use Rattle.desk.specs.declared.axis_settings.AxisSettings.{AxisSettings}
-use Rattle.desk.specs.Tables.{row-or, alter}
+use Rattle.desk.specs.Tables.{row-or}
 use Rattle.desk.specs.Axes.{no-axis, opened-axis}
-use Rattle.rules.specs.World.{Core, World, settings, group, axis-at, no-drive-axis, numbers, numbers-from}
+use Rattle.rules.specs.World.{settings, group, axis-at, no-drive-axis, numbers, numbers-from}
 use Rattle.rules.specs.Calls.{matches, placed, within-reach, opened}
 use Rattle.laws.proofs.Basics.{alter-gives, at-alter, Touches, effect, replay-keeps, replay-count, all-map, and-l, and-r, has-case, has-first, has-later}
 use Rattle.laws.proofs.Good.{GoodAxis, GoodGroup, Good, le-of, at-most-refl, free-good}

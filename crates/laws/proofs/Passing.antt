@@ -1,28 +1,26 @@
 -- What the tests of an accepted command say, rule by rule.
-use mathlib.Core.Path.{_≡_, refl, sym, ap, _∙_, subst}
-use mathlib.Core.Bool.{Bool, true, false, cond, not, _&&_, _||_}
-use mathlib.Core.List.{List, [], _∷_, _++_, map}
-use Prim.Native.Nat.{ℕ, zero, suc, _≤_, _<_}
+use mathlib.Core.Path.{_≡_, subst}
+use mathlib.Core.Bool.{Bool, true, false, not, _&&_, _||_}
+use mathlib.Core.List.{List, [], _∷_, map}
+use Prim.Native.Nat.{ℕ, zero, suc, _≤_}
 use native.Mathlib.Omega.{arith}
 use lib.IntN.{ℤ, pos, negsuc, natAbs}
 use lib.Signed.{leZ, ltZ, _≤ℤ_}
-use lib.Dec.{T, leb, ltb, eqb}
+use lib.Dec.{T}
 use Rattle.std.proofs.shelf.Signed.{ints}
-use Rattle.std.specs.declared.option.Option.{Option}
-use Rattle.std.specs.declared.option.Option.the-variants.{Some, None}
+use Rattle.std.specs.declared.option.Option.the-variants.{Some}
 use Rattle.command.specs.declared.mnemonic.Mnemonic.{Mnemonic}
 use Rattle.command.specs.declared.mnemonic.Mnemonic.the-variants.{Ac, Ag, Fp, Dh, Sl, Sr}
 use Rattle.command.specs.Commands.{Field, Command}
 use Rattle.queue.specs.declared.error_entry.ErrorEntry.{ErrorEntry}
 use Rattle.groups.specs.Groups.{GroupModel, free-group, has}
-use Rattle.desk.specs.declared.axis_settings.AxisSettings.{AxisSettings}
 use Rattle.desk.specs.Tables.{row-or}
-use Rattle.rules.specs.World.{Core, settings, group, members, axis-at, powered, taken-groups}
+use Rattle.rules.specs.World.{Core, settings, axis-at, taken-groups}
 use Rattle.rules.specs.Kinds.{is, among}
 use Rattle.rules.specs.Refusals as R
-use Rattle.rules.specs.Refusals.{Test, needs, where-so, asking, value, none-below, each-within, naming, doing, tests-of}
-use Rattle.laws.proofs.Basics.{Passed, passed-l, passed-r, and-l, and-r, or-case, has-case, not-both}
-use Rattle.laws.proofs.Good.{Inside, Fit, le-of}
+use Rattle.rules.specs.Refusals.{needs, where-so, asking, value, none-below, each-within, naming, doing, tests-of}
+use Rattle.laws.proofs.Basics.{Passed, or-l, passed-l, passed-r, and-l, and-r, has-case, not-both}
+use Rattle.laws.proofs.Good.{Fit, le-of}
 
 pub record Passing (k : Core) (m : Mnemonic) (c : Command) : Type 0 where
   pub not-asking : asking m c ≡ false
@@ -87,16 +85,12 @@ passing k m c e p =
 pub ungrouped : (gs : List GroupModel) (n : ℕ) → T (not (taken-groups n gs)) → (g : ℕ) → T (has n (row-or free-group g gs .members)) → ⊥
 ungrouped gs n h zero e = e
 ungrouped [] n h (suc i) e = e
-ungrouped (x ∷ gs) n h (suc zero) e = not-both (has n (x .members) || taken-groups n gs) h (or-left (has n (x .members)) (taken-groups n gs) e)
+ungrouped (x ∷ gs) n h (suc zero) e = not-both (has n (x .members) || taken-groups n gs) h (or-l (has n (x .members)) (taken-groups n gs) e)
+ungrouped (x ∷ gs) n h (suc (suc i)) e = ungrouped gs n (not-or (has n (x .members)) (taken-groups n gs) h) (suc i) e
   where
-    or-left : (a b : Bool) → T a → T (a || b)
-    or-left true b t = tt
-    or-left false b t = absurd t
-ungrouped (x ∷ gs) n h (suc (suc i)) e = ungrouped gs n (rest (has n (x .members)) (taken-groups n gs) h) (suc i) e
-  where
-    rest : (a b : Bool) → T (not (a || b)) → T (not b)
-    rest true b t = absurd t
-    rest false b t = t
+    not-or : (a b : Bool) → T (not (a || b)) → T (not b)
+    not-or true b t = absurd t
+    not-or false b t = t
 
 -- a figure above 0 and not above m
 pub figure-le : (z : ℤ) (m : ℕ) → T (ltZ (pos 0) z) → T (leZ z (pos m)) → natAbs z ≤ m

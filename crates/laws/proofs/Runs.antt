@@ -1,12 +1,11 @@
 -- What every command and every beat keeps, a run keeps.
-use mathlib.Core.Path.{_≡_, refl, sym, ap, _∙_, subst}
-use mathlib.Core.Bool.{Bool, true, false, cond, _&&_}
-use mathlib.Core.List.{List, [], _∷_, _++_}
-use mathlib.Core.Logic.{_⊎_, inl, inr}
-use Prim.Native.Nat.{ℕ, zero, suc}
-use lib.Dec.{T, leb}
+use mathlib.Core.Path.{_≡_, refl, sym, _∙_, subst}
+use mathlib.Core.Bool.{Bool, true, false, _&&_}
+use mathlib.Core.List.{List, [], _∷_}
+use mathlib.Core.Logic.{inl, inr}
+use Prim.Native.Nat.{ℕ}
+use lib.Dec.{leb}
 use lib.IntN.{ℤ}
-use Rattle.std.specs.shelf.Lists.{All}
 use Rattle.std.proofs.shelf.Tests.{false≢true}
 use Rattle.std.specs.declared.option.Option.{Option}
 use Rattle.std.specs.declared.option.Option.the-variants.{Some, None}
@@ -18,16 +17,16 @@ use Rattle.command.specs.declared.mnemonic.Mnemonic.{Mnemonic}
 use Rattle.command.specs.Commands.{Command, commands-of}
 use Rattle.queue.specs.declared.error_entry.ErrorEntry.{ErrorEntry}
 use Rattle.queue.specs.declared.refusal.Refusal.{Refusal}
-use Rattle.rules.specs.World.{Core, World, settings, axis-at}
-use Rattle.rules.specs.Deeds.{Trail, beats}
+use Rattle.rules.specs.World.{Core, World, settings}
+use Rattle.rules.specs.Deeds.{beats}
 use Rattle.rules.specs.Refusals.{tests, refused-by}
 use Rattle.rules.specs.Steps.{step, settled, accepted, run-commands}
-use Rattle.rules.specs.Calls.{matches, too-long, line-world, line-taken, ticks-call}
-use Rattle.rules.specs.Runs.{Call, line-sent, ticks-made, error-asked, after-line, called, run, moment}
-use Rattle.laws.specs.Laws.{was-refused, Untouched, AtMost, Bounded, state, All-told, Keeps-limits, Start-is, Starts-are}
+use Rattle.rules.specs.Calls.{matches, too-long, line-world, line-taken}
+use Rattle.rules.specs.Runs.{Call, line-sent, ticks-made, error-asked, after-line, called, run}
+use Rattle.laws.specs.Laws.{was-refused, Untouched, AtMost, state, All-told, Keeps-limits, Start-is, Starts-are}
 use Rattle.laws.proofs.Basics.{judged, picked, all-weaker}
-use Rattle.laws.proofs.Good.{most, GoodAxis, Good}
-use Rattle.laws.proofs.Trails.{ProperStart, Proper, Fine, Calm, beats-calm}
+use Rattle.laws.proofs.Good.{most, Good}
+use Rattle.laws.proofs.Trails.{ProperStart, Proper, beats-calm}
 use Rattle.laws.proofs.Deeds.{step-fine}
 
 module _ (P : Core → Type 0) (by-step : (w : World) (c : Command) → P (w .core) → P (step w c .world .core)) (by-beats : (n : ℕ) (k : Core) → P k → P (beats n k .core)) where

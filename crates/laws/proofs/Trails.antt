@@ -1,30 +1,27 @@
 -- What beats leave alone, what a start must be, and what holds of every deed and of what the drive is told on the way.
 use mathlib.Core.Path.{_≡_, refl, sym, ap, _∙_, subst}
-use mathlib.Core.Bool.{Bool, true, false, cond, not, _&&_, _||_}
-use mathlib.Core.List.{List, [], _∷_, _++_, map}
+use mathlib.Core.Bool.{Bool, true, false, cond, _&&_}
+use mathlib.Core.List.{List, [], _∷_, _++_}
 use mathlib.Core.Logic.{_⊎_, inl, inr}
-use Prim.Native.Nat.{ℕ, zero, suc, _≤_, _<_}
+use Prim.Native.Nat.{ℕ, zero, suc, _≤_}
 use native.Mathlib.Omega.{arith}
 use lib.IntN.{ℤ, natAbs}
 use lib.Dec.{T, leb, eqb, le→leb, eqb-refl}
 use lib.ListN.{length, drop}
 use Rattle.std.proofs.shelf.Ways.{tells}
-use Rattle.std.proofs.shelf.Tests.{ne-eqb, cond-false}
 use Rattle.std.specs.shelf.Lists.{All}
-use Rattle.std.specs.shelf.Lawful.{all-pass}
 use Rattle.drive.specs.declared.profile.Profile.{Profile}
-use Rattle.drive.specs.Model.{Axis, start-axis, set-position-axis, at-rest}
+use Rattle.drive.specs.Model.{Axis, start-axis, at-rest}
 use Rattle.drive.specs.Calls.{Told, power-on, power-off, start, stop, set-position, tick, done, replay}
-use Rattle.groups.specs.Groups.{GroupModel, free-group, with-waypoints, has}
-use Rattle.desk.specs.declared.axis_settings.AxisSettings.{AxisSettings}
-use Rattle.desk.specs.Tables.{there, row-or, alter}
+use Rattle.groups.specs.Groups.{free-group, with-waypoints, has}
+use Rattle.desk.specs.Tables.{row-or}
 use Rattle.desk.specs.Axes.{no-axis}
 use Rattle.desk.specs.Desks.{DeskModel, at-group, waypoint-taken, waypoints-emptied}
-use Rattle.rules.specs.World.{Core, settings, group, members, axis-at, resting, powered, no-drive-axis, with-desk, with-drive, numbers, group-count}
+use Rattle.rules.specs.World.{Core, settings, group, members, axis-at, powered, no-drive-axis, with-desk, numbers, group-count}
 use Rattle.rules.specs.Deeds.{Trail, quiet, tell, note, and-then, starts, all-rest, all-powered, waits, first-waypoint, set-off, go-on, advance, advance-all, beat, beats, wait}
-use Rattle.laws.specs.Laws.{AtMost, last-profile}
-use Rattle.laws.proofs.Basics.{alter-length, alter-keeps, alter-gives, at-alter, done-keeps, Touches, effect, replay-keeps, replay-count, replay-append, picked, all-weaker, all-append, all-pass-has, has-first, has-later, and-l, and-r, true-of}
-use Rattle.laws.proofs.Good.{most, Inside, GoodAxis, Fit, Good, Allowed, tell-good, in-reach, group-good, waypoints-good, emptied-good, fit-drop}
+use Rattle.laws.specs.Laws.{last-profile}
+use Rattle.laws.proofs.Basics.{alter-length, alter-keeps, alter-gives, at-alter, done-keeps, Touches, effect, replay-keeps, replay-count, replay-append, picked, all-weaker, all-append, all-pass-has, has-first, has-later, true-of}
+use Rattle.laws.proofs.Good.{most, Inside, Fit, Good, Allowed, tell-good, in-reach, group-good, waypoints-good, emptied-good, fit-drop}
 
 -- ---- what beats leave alone
 

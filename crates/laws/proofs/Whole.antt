@@ -1,22 +1,18 @@
 -- All laws of every run.
 use mathlib.Core.Path.{_≡_, refl, sym, ap, _∙_, subst, subst₂}
-use mathlib.Core.Bool.{Bool, true, false, cond, not, _&&_, _||_}
+use mathlib.Core.Bool.{Bool, true, false, cond}
 use mathlib.Core.List.{List, [], _∷_, _++_, map}
 use mathlib.Core.Logic.{_⊎_, inl, inr}
-use Prim.Native.Nat.{ℕ, zero, suc, _+_, _/_, _≤_, _<_, min}
+use Prim.Native.Nat.{ℕ, zero, suc, _+_, _/_, _≤_, min}
 use native.Mathlib.Omega.{arith}
-use lib.IntN.{ℤ, pos}
-use lib.Dec.{T, eqb, eqb→eq, eqb-refl}
-use lib.ListN.{length, getD, replicate}
+use lib.IntN.{pos}
+use lib.Dec.{T}
+use lib.ListN.{length}
 use Rattle.std.proofs.shelf.Lists.{length-replicate}
 use Rattle.std.proofs.shelf.Tests.{ne-eqb, cases-lt}
-use Rattle.std.specs.declared.result.Result.{Result}
-use Rattle.std.specs.declared.result.Result.the-variants.{Ok, Err}
 use Rattle.drive.specs.declared.profile.Profile.{Profile}
 use Rattle.drive.specs.Model.{Axis, Sound}
 use Rattle.setup.specs.declared.record.SetupRecord.{SetupRecord}
-use Rattle.setup.specs.Setups.{decoded}
-use Rattle.command.specs.Commands.{Command}
 use Rattle.queue.specs.declared.refusal.Refusal.{Refusal}
 use Rattle.queue.specs.declared.refusal.Refusal.the-variants.{RecordCount, RecordLayout, DriveMismatch, OutsideLimits, ReplyTooSmall, LineOpen, TickCount, NoSuchError}
 use Rattle.queue.specs.Refusals.{number-of}
@@ -26,14 +22,12 @@ use Rattle.desk.specs.declared.axis_settings.AxisSettings.{AxisSettings}
 use Rattle.desk.specs.Tables.{row-or}
 use Rattle.desk.specs.Axes.{no-axis, opened-axis}
 use Rattle.desk.specs.Desks.{opened-desk}
-use Rattle.rules.specs.World.{Core, World, settings, axis-at}
+use Rattle.rules.specs.World.{Core, World, axis-at}
 use Rattle.rules.specs.Deeds.{Trail, and-then, beat, beats, wait}
-use Rattle.rules.specs.Steps.{step}
-use Rattle.rules.specs.Calls.{Answer, refusing, accepting, matches, placed, opened, open-with, open-call}
-use Rattle.rules.specs.Runs.{Call, run}
-use Rattle.laws.specs.Ledger.{Ledger, greatest, greatest-of, first-ledger, ledger, smallest, due}
-use Rattle.laws.specs.Laws.{AtMost, Bounded, state, ledger-at, Accounted, Smallest-of, Words, Lawful, Every-run-lawful}
-use Rattle.laws.proofs.Basics.{map-count, has-case, has-first, has-later, or-l, or-r}
+use Rattle.rules.specs.Calls.{Answer, refusing, accepting, matches, placed, opened, open-with}
+use Rattle.laws.specs.Ledger.{greatest, greatest-of, first-ledger, smallest, due}
+use Rattle.laws.specs.Laws.{AtMost, Bounded, state, ledger-at, Smallest-of, Words, Lawful, Every-run-lawful}
+use Rattle.laws.proofs.Basics.{has-case, has-first, has-later}
 use Rattle.laws.proofs.Good.{most, Good}
 use Rattle.laws.proofs.Trails.{beats-calm}
 use Rattle.laws.proofs.Deeds.{step-fine, least-first, least-later}

@@ -4,18 +4,18 @@ use mathlib.Core.List.{List, [], _∷_, _++_}
 use mathlib.Core.Path.{_≡_}
 use Prim.Native.Nat.{ℕ}
 use lib.Chars.{codes}
-use lib.IntN.{ℤ, pos}
+use lib.IntN.{pos}
 use lib.ListN.{replicate}
 use Rattle.drive.specs.declared.profile.Profile.{Profile}
-use Rattle.drive.specs.Calls.{Told, start, stop, tick}
+use Rattle.drive.specs.Calls.{start, tick}
 use Rattle.setup.specs.declared.record.SetupRecord.{SetupRecord}
 use Rattle.command.specs.Commands.{Command, commands-of}
-use Rattle.rules.specs.World.{Core, World, settings, axis-at}
+use Rattle.rules.specs.World.{World, settings, axis-at}
 use Rattle.rules.specs.Deeds.{beats}
 use Rattle.rules.specs.Runs.{Call, line-sent, run, moment}
 use Rattle.rules.specs.Samples.{sample-record, sample-open}
-use Rattle.laws.specs.Ledger.{Ledger, greatest-of, due}
-use Rattle.laws.specs.Laws.{state, ledger-at, Lawful}
+use Rattle.laws.specs.Ledger.{greatest-of, due}
+use Rattle.laws.specs.Laws.{ledger-at, Lawful}
 
 abbrev pub records : List SetupRecord
 records = replicate 3 sample-record

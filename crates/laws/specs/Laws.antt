@@ -18,7 +18,6 @@ use Rattle.setup.specs.Setups.{decoded}
 use Rattle.command.specs.Commands.{Command, commands-of}
 use Rattle.queue.specs.declared.refusal.Refusal.{Refusal}
 use Rattle.groups.specs.Groups.{has}
-use Rattle.desk.specs.declared.axis_settings.AxisSettings.{AxisSettings}
 use Rattle.rules.specs.World.{Core, World, settings, group, members, axis-at}
 use Rattle.rules.specs.Deeds.{beats, wait-for}
 use Rattle.rules.specs.Steps.{Outcome, refused, replied, step, run-commands}
@@ -39,14 +38,14 @@ pub record All-told (w : World) (xs : List Call) (cs : List Command) : Type 0 wh
 
 -- ---- limits
 
--- an axis stands at, and is bound for, a place from left to right, both counted
+-- position and target of an axis lie between left and right, both counted
 pub record Bounded (left right : ℤ) (a : Axis) : Type 0 where
   pub left-position : left ≤ℤ a .position
   pub position-right : a .position ≤ℤ right
   pub left-target : left ≤ℤ a .target
   pub target-right : a .target ≤ℤ right
 
--- At every moment every axis stands and is bound within its limits of then.
+-- At every moment position and target of every axis lie within its limits of then.
 abbrev pub Keeps-limits : World → Type 0
 Keeps-limits w = (xs : List Call) (cs : List Command) (k n : ℕ) → Bounded (settings (moment w xs cs k) n .left) (settings (moment w xs cs k) n .right) (axis-at (moment w xs cs k) n)
 
