@@ -21,7 +21,7 @@ pub fn count_known(line: &[u8]) -> usize
 }
 
 /// How many parameters a command has.
-pub fn count_parameters(command: &Command) -> usize
+pub(crate) fn count_parameters(command: &Command) -> usize
     requires { ⌜ now command .rest .column + length (now (now command .rest .bytes)) ≤ 2 ^ 63 ⌝ }
     ensures { λ r. ⌜ r ≡ length (said (now (command .entry)) .parameters) ⌝ }
 {
