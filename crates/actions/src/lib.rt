@@ -1,4 +1,6 @@
 // What an accepted command does.
+#![tactic(auto)]
+
 mod collecting;
 mod fitting;
 mod grouping;

@@ -1,4 +1,6 @@
 // What an accepted command answers.
+#![tactic(auto)]
+
 mod answer;
 mod axis_texts;
 mod error_texts;

@@ -1,4 +1,6 @@
 // What a command asks for, and how desk and drive stand.
+#![tactic(auto)]
+
 pub mod desk_view;
 pub mod drive_view;
 pub mod kinds;

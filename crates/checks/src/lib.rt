@@ -1,4 +1,6 @@
 // When a command is refused: each rule in a function of its own, and all of them in their order.
+#![tactic(auto)]
+
 mod forming;
 mod judging;
 mod moves;

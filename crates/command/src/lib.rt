@@ -1,4 +1,6 @@
 // A line read as commands: fields that borrow the line, mnemonics, parameters, columns.
+#![tactic(auto)]
+
 mod bytes;
 pub mod command;
 pub mod commands;

@@ -1,4 +1,6 @@
 // The console: opening, line, ticks and error view.
+#![tactic(auto)]
+
 mod calls;
 mod console;
 mod line_done;

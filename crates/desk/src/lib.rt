@@ -1,4 +1,6 @@
 // What the console keeps: the settings of the axes, the groups, and the errors that wait.
+#![tactic(auto)]
+
 mod axis_settings;
 mod axis_settings_calls;
 mod desk_forming;

@@ -1,4 +1,6 @@
 // A modelled drive: what every drive means, a drive with one axis reversed, and ticks until an axis rests.
+#![tactic(auto)]
+
 mod drive;
 mod laws;
 mod profile;

@@ -1,4 +1,6 @@
 // A tour of the modelled drives: how each travels, how its making settles odd figures, and what every drive refuses.
+#![tactic(auto)]
+
 mod account;
 mod refusals;
 mod tour;

@@ -1,4 +1,6 @@
 // One command after another: judged, answered and carried out.
+#![tactic(auto)]
+
 mod command_step;
 mod line_run;
 mod nothing;

@@ -1,3 +1,5 @@
 // Whether the figure that a command sets is in its range: each rule in a function of its own.
+#![tactic(auto)]
+
 mod figure;
 pub mod ranges;

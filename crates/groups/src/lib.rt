@@ -1,4 +1,6 @@
 // A group of axes: its members, the profile of its starts, and the waypoints that wait.
+#![tactic(auto)]
+
 mod group;
 mod group_calls;
 mod members;

@@ -1,4 +1,6 @@
 // What holds of every run of the console, over every drive. There is nothing to run here: the contracts are the laws.
+#![tactic(auto)]
+
 ghost use Rattle.laws.specs.Instances.{Instances};
 ghost use Rattle.laws.specs.Laws.{EveryRunLawful, Words};
 

@@ -1,4 +1,6 @@
 // Runs an answer file on a console over a modelled drive, and prints its mark sheet.
+#![tactic(auto)]
+
 mod course;
 mod cut;
 mod drive_choice;

@@ -1,4 +1,6 @@
 // Drives told to start, stop and tick; groups and waits.
+#![tactic(auto)]
+
 mod asking;
 mod beating;
 mod goal;

@@ -1,4 +1,6 @@
 // Numbers as text: decimals read, settings and positions written.
+#![tactic(auto)]
+
 pub mod decimal;
 pub mod digits;
 pub mod list;

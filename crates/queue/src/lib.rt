@@ -1,4 +1,6 @@
 // A first-in, first-out queue over a slice of slots, and what waits in queues: error entries and waypoints.
+#![tactic(auto)]
+
 mod entry;
 mod error_entry;
 mod error_queue;

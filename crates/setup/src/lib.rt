@@ -1,4 +1,6 @@
 // Setup records: 48 bytes for each axis, read and written.
+#![tactic(auto)]
+
 mod name;
 mod reading;
 mod record;

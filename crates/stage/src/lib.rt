@@ -1,4 +1,6 @@
 // One axis of a modelled drive: instant, stepping or easing.
+#![tactic(auto)]
+
 mod ease;
 mod easing;
 mod easing_axis;

@@ -1,4 +1,6 @@
 // Runs the trials of a script that it reads from standard input, and prints what came of each.
+#![tactic(auto)]
+
 mod case;
 mod fault;
 mod hex;
