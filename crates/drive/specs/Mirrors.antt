@@ -5,7 +5,7 @@ use Rattle.std.proofs.Math.IntN.{neg_ℤ-neg_ℤ}
 use Rattle.std.specs.Int.Signed.{mag}
 use Rattle.std.specs.List.{AllByRecursion as All}
 use Rattle.std.proofs.lemmas.Int.{ints}
-use Rattle.std.proofs.lemmas.Bool.{cases_lt, cases_eq, cond-true, cond-false, eq_eqb, ne_eqb}
+use Rattle.std.proofs.lemmas.Bool.{cases_lt, cases_eq, cond-true, cond-false, eq-eqb, ne_eqb}
 use Rattle.std.proofs.lemmas.Bool.Decides.{nat_tests}
 use Rattle.std.specs.Int.{saturate_to_bits}
 use Rattle.drive.specs.declared.profile.Profile.{Profile}
@@ -104,7 +104,7 @@ module _ (f : Axis → ℤ) (within : (a : Axis) → SoundAxis a → unsigned_ab
   told_small (suc i) xs p s e = ask_small i xs p s.each e
 
 faced_same : (k : ℕ) (r : Result ℤ DriveRefusal) → ((p : ℤ) → r ≡ Ok p → unsigned_abs p ≤ 2000000000) → facing_answer k k r ≡ turned_ok r
-faced_same k (Ok p) small = ap Ok (cond-true (k == k) (saturate_to_bits 31 (neg_ℤ p)) p (eq_eqb k k refl) ∙ saturated_neg p (small p refl))
+faced_same k (Ok p) small = ap Ok (cond-true (k == k) (saturate_to_bits 31 (neg_ℤ p)) p (eq-eqb k k refl) ∙ saturated_neg p (small p refl))
 faced_same k (Err e) small = refl
 
 faced_other : (n k : ℕ) (r : Result ℤ DriveRefusal) → (n ≢ k) → facing_answer k n r ≡ r
@@ -205,7 +205,7 @@ module _ (f : ℤ → Change) (commutes : (t u : ℤ) (a : Axis) → Opposite t 
   change_faced t n k xs fits s =
       ⊎_elim
       (λ same-axis.
-      let e : facing k n t ≡ saturate_to_bits 31 (neg_ℤ t) = cond-true (n == k) (saturate_to_bits 31 (neg_ℤ t)) t (eq_eqb n k same-axis) in
+      let e : facing k n t ≡ saturate_to_bits 31 (neg_ℤ t) = cond-true (n == k) (saturate_to_bits 31 (neg_ℤ t)) t (eq-eqb n k same-axis) in
       rw e (rw same-axis (change_same t (saturate_to_bits 31 (neg_ℤ t)) k xs (opposite t fits) s)))
       (λ ne.
       let e : facing k n t ≡ t = cond-false (n == k) (saturate_to_bits 31 (neg_ℤ t)) t (ne_eqb n k ne) in

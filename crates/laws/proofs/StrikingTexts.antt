@@ -3,7 +3,7 @@ use Rattle.std.proofs.Common.{◌≡◌, ℕ, zero, suc, ◌+◌, ◌-◌, ◌�
 use Rattle.std.proofs.lemmas.List.{reverse-append, reverse-reverse, length-append, length-reverse, length-drop, length-take, length-take-le, take-append-drop, drop-drop}
 use Rattle.std.specs.List.{prefix_len, suffix_len}
 use Rattle.std.proofs.lemmas.List.Sums.{prefix_len-le-length, suffix_len-le-length}
-use Rattle.std.proofs.lemmas.Bool.{eqb-true, not-false, and_parts, and_from, eq_eqb}
+use Rattle.std.proofs.lemmas.Bool.{eqb-true, not-false, and_parts, and_from, eq-eqb}
 use Rattle.command.specs.Lines.{blank, apart, trimmed, up_to, begun, later, parts}
 use Rattle.command.specs.Commands.{Command, commands_of}
 use Rattle.laws.specs.Strike.{first_flag, later_flags, unflagged, texts, behind, together, all_blank, without_command, struck_texts, struck_line, LinesStruck}
@@ -186,7 +186,7 @@ without_blank : (blanks : Bool) (t : List ℕ) → all_blank (without_command bl
 without_blank true t = refl
 without_blank false t =
     let w = without_command false t in
-    eq_eqb (length (trimmed w)) 0 (trimmed_blank w (only_all w (only_append (take (prefix_len blank t) t) (drop (prefix_len blank t + length (trimmed t)) t) (only_leading t) (behind_command t))))
+    eq-eqb (length (trimmed w)) 0 (trimmed_blank w (only_all w (only_append (take (prefix_len blank t) t) (drop (prefix_len blank t + length (trimmed t)) t) (only_leading t) (behind_command t))))
 
 -- ---- striking texts strikes commands
 

@@ -1,5 +1,5 @@
 use Rattle.std.proofs.Common.{◌≡◌, ◌-◌, true, false, ◌||◌, eqb, map, take, sym, ap, ◌∙◌, arith}
-use Rattle.std.proofs.lemmas.Bool.{eq_eqb, ne_eqb}
+use Rattle.std.proofs.lemmas.Bool.{eq-eqb, ne_eqb}
 use Rattle.command.specs.Views.{seen, to_give}
 use Rattle.groups.specs.Groups.{has}
 use Rattle.rules.specs.Refusals.{units}
@@ -19,7 +19,7 @@ returns-then-units-number c =
     let f = seen c.in-Some.field in
     let more = to_give c.next-parameter.new.self in
     let here = has_turn n left (to_give c.loop-left.given) f more c.loop-left-test.true c.in-Some.ensures.next in
-    let same : eqb (units f) n ≡ true = eq_eqb (units f) n (sym c.units.ensures ∙ c.if-units-number.true) in
+    let same : eqb (units f) n ≡ true = eq-eqb (units f) n (sym c.units.ensures ∙ c.if-units-number.true) in
     sym (here ∙ ap (λ b. b || has n (map units (take (left - 1) more))) same) ∙ c.loop-left.invariant
 
 pub loop-left-preserved : goal.loop-left-preserved
