@@ -6,5 +6,5 @@ use Rattle.drive.proofs.reversed_drive.ReversedDrive.set_position.Goals as goal
 
 pub returns : goal.returns
 returns g c =
-    call_faced set_position_axis set_position_faced c.args.position _ c.args.axis c.args.self.now.axis c.set-position-below.new.self.axis c.set-position-below.result (g.D.Drive.axes c.args.self.now.below) (g.D.Drive.axes c.set-position-below.new.self.below)
-    c.ranges.position.sfits (g.met.D.Drive.sound c.args.self.now.below) (to_z-of_z w32 c.args.position c.ranges.position) c.set-position-below.ensures.kept c.set-position-below.ensures.told
+    call_faced set_position_axis set_position_faced c.args.position _ c.args.axis c.args.self.now.axis c.set_position_below.new.self.axis c.set_position_below.result (g.D.Drive.axes c.args.self.now.below) (g.D.Drive.axes c.set_position_below.new.self.below)
+    c.ranges.position.sfits (g.met.D.Drive.sound c.args.self.now.below) (to_z-of_z w32 c.args.position c.ranges.position) c.set_position_below.ensures.kept c.set_position_below.ensures.told

@@ -6,5 +6,5 @@ use Rattle.drive.proofs.reversed_drive.ReversedDrive.start.Goals as goal
 
 pub returns : goal.returns
 returns g c =
-    call_faced (λ t. start_axis t c.args.profile) (start_faced c.args.profile) c.args.target _ c.args.axis c.args.self.now.axis c.start-below.new.self.axis c.start-below.result (g.D.Drive.axes c.args.self.now.below) (g.D.Drive.axes c.start-below.new.self.below)
-    c.ranges.target.sfits (g.met.D.Drive.sound c.args.self.now.below) (to_z-of_z w32 c.args.target c.ranges.target) c.start-below.ensures.kept c.start-below.ensures.told
+    call_faced (λ t. start_axis t c.args.profile) (start_faced c.args.profile) c.args.target _ c.args.axis c.args.self.now.axis c.start_below.new.self.axis c.start_below.result (g.D.Drive.axes c.args.self.now.below) (g.D.Drive.axes c.start_below.new.self.below)
+    c.ranges.target.sfits (g.met.D.Drive.sound c.args.self.now.below) (to_z-of_z w32 c.args.target c.ranges.target) c.start_below.ensures.kept c.start_below.ensures.told
