@@ -6,7 +6,7 @@ use Rattle.desk.specs.Axes.{opened_axis, short}
 use Rattle.desk.proofs.Changes.{all_pass_set}
 use Rattle.desk.proofs.Joining.{table_turn, record_none}
 use Rattle.desk.proofs.opening.axis_table.Goals as goal
-use Rattle.desk.proofs.opening.axis_table.Goals.{in-Some, in-default}
+use Rattle.desk.proofs.opening.axis_table.Goals.{in-Some, in_default}
 
 pub loop-k-init : goal.loop-k-init
 loop-k-init c = (refl, refl, simp c.unused-axes.ensures refl)
@@ -16,7 +16,7 @@ loop-k-preserved c =
     let rs = records_in c.args.setup.now in
     elim c.match-record.branch [
       | in-Some w ↦ table_turn rs c.loop-k.axes c.match-record.axes c.loop-k.k w.in-Some.found w.opened.result (omega arith) (omega arith) w.in-Some.ensures w.opened.ensures w.axes-is c.loop-k.invariant
-      | in-default w ↦ absurd (record_none rs c.loop-k.k (omega arith) w.in-default.ensures)
+      | in_default w ↦ absurd (record_none rs c.loop-k.k (omega arith) w.in_default.ensures)
     ]
 
 pub returns : goal.returns

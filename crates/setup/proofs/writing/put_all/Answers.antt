@@ -9,14 +9,14 @@ use Rattle.setup.proofs.Backs.{front_back}
 use Rattle.setup.proofs.Writes.{record_written}
 use Rattle.setup.proofs.writing.put_all.Goals as goal
 
-pub put-record-requires : goal.put-record-requires
-put-record-requires c = let l : length (records_in c.args.setup.now) ≡ c.args.setup.now.count = search (rules, length-take-le) in omega arith
+pub put_record-requires : goal.put_record-requires
+put_record-requires c = let l : length (records_in c.args.setup.now) ≡ c.args.setup.now.count = search (rules, length-take-le) in omega arith
 
 pub loop-k-preserved : goal.loop-k-preserved
 loop-k-preserved c =
     let l : length (records_in c.args.setup.now) ≡ c.args.setup.now.count = search (rules, length-take-le) in
-    record_written c.loop-k.k c.args.setup.now.records no_record c.args.out.now c.loop-k.out c.put-record.new.out (omega arith) (omega arith)
-    c.loop-k.invariant.0 c.loop-k.invariant.1 c.put-record.ensures.bytes c.put-record.ensures.size
+    record_written c.loop-k.k c.args.setup.now.records no_record c.args.out.now c.loop-k.out c.put_record.new.out (omega arith) (omega arith)
+    c.loop-k.invariant.0 c.loop-k.invariant.1 c.put_record.ensures.bytes c.put_record.ensures.size
 
 pub returns : goal.returns
 returns c =

@@ -10,11 +10,11 @@ returns c =
     let size : length one.name ≡ 32 = search rules in
     let fl : SFits w32 one.left = search rules in
     let fr : SFits w32 one.right = search rules in
-    let l = simp to_z-of_z at c.to-le-bytes-3.ensures in
-    let r = simp to_z-of_z at c.to-le-bytes-4.ensures in
+    let l = simp to_z-of_z at c.to_le_bytes-3.ensures in
+    let r = simp to_z-of_z at c.to_le_bytes-4.ensures in
     record {
       bytes =
           parts_written c.args.at one.name _ _ _ _ _ _ _ _ _ _ one.max_velocity one.max_acceleration (of_z w32 one.left) (of_z w32 one.right) size
-          c.to-le-bytes.ensures c.to-le-bytes-2.ensures l r (omega arith) c.put.ensures c.put-2.ensures c.put-3.ensures c.put-4.ensures c.put-5.ensures;
+          c.to_le_bytes.ensures c.to_le_bytes-2.ensures l r (omega arith) c.put.ensures c.put-2.ensures c.put-3.ensures c.put-4.ensures c.put-5.ensures;
       size = simp length-append (omega arith);
     }

@@ -5,4 +5,4 @@ use Rattle.bank.specs.Arrays.{view_equal}
 use Rattle.bank.proofs.bank.Bank.of.Goals as goal
 
 pub returns : goal.returns
-returns c = view_equal kind_axis c.count-taken.result 12 c.args.axis (omega arith) ∙ ap (λ n. replicate n (kind_axis c.args.axis)) (omega arith)
+returns c = view_equal kind_axis c.count_taken.result 12 c.args.axis (omega arith) ∙ ap (λ n. replicate n (kind_axis c.args.axis)) (omega arith)

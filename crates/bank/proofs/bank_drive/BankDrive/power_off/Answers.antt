@@ -9,5 +9,5 @@ returns-in-None c = done_none kind_axis power_off_axis c.args.self.now.count c.a
 
 pub returns-in-Some : goal.returns-in-Some
 returns-in-Some c =
-    done_some kind_axis power_off_axis c.args.self.now.count c.args.self.now.axes c.args.axis c.in-Some.i c.put.new.self.count c.index-self-i.result c.power-off-answer.new.self c.put.new.self.axes c.power-off-answer.result
-    (omega arith) c.in-Some.ensures c.power-off-answer.ensures c.put.ensures.put c.put.ensures.kept
+    done_some kind_axis power_off_axis c.args.self.now.count c.args.self.now.axes c.args.axis c.in-Some.i c.put.new.self.count c.index-self-i.result c.power_off-answer.new.self c.put.new.self.axes c.power_off-answer.result
+    (omega arith) c.in-Some.ensures c.power_off-answer.ensures c.put.ensures.put c.put.ensures.kept

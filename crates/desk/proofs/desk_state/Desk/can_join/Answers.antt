@@ -5,8 +5,8 @@ use Rattle.desk.specs.Tables.{there}
 use Rattle.desk.specs.Desks.{model_of}
 use Rattle.desk.proofs.desk_state.Desk.can_join.Goals as goal
 
-pub returns-then-not-has-axis : goal.returns-then-not-has-axis
-returns-then-not-has-axis c =
+pub returns-then-not-has_axis : goal.returns-then-not-has_axis
+returns-then-not-has_axis c =
     let s = all_pass_more (λ m. there m (model_of c.args.self.now).axes) c.args.members.now c.loop-k.k 0 c.loop-k-test.true in
     record { value = grind (arith, nat_tests); few = search rules }
 

@@ -11,13 +11,13 @@ returns-then-members-eq0 c = smallest_none (model_of c.args.self.now).axes c.arg
 pub loop-k-init : goal.loop-k-init
 loop-k-init c =
     let axes = (model_of c.args.self.now).axes in
-    ap (λ p. least p (map (own_of axes) (drop 1 c.args.members.now))) c.own-of-p.ensures ∙ smallest_first axes c.args.members.now (omega arith)
+    ap (λ p. least p (map (own_of axes) (drop 1 c.args.members.now))) c.own_of-p.ensures ∙ smallest_first axes c.args.members.now (omega arith)
 
 pub loop-k-preserved : goal.loop-k-preserved
 loop-k-preserved c =
     let axes = (model_of c.args.self.now).axes in
     let ms = c.args.members.now in
-    ap (λ p. least p (map (own_of axes) (drop (c.loop-k.k + 1) ms))) (c.lesser-p.ensures ∙ ap (λ q. lesser c.loop-k.p q) c.own-of.ensures)
+    ap (λ p. least p (map (own_of axes) (drop (c.loop-k.k + 1) ms))) (c.lesser-p.ensures ∙ ap (λ q. lesser c.loop-k.p q) c.own_of.ensures)
     ∙ sym (least_more axes ms c.loop-k.k c.loop-k.p c.loop-k-test.true) ∙ c.loop-k.invariant
 
 pub returns : goal.returns

@@ -5,8 +5,8 @@ use Rattle.drive.proofs.Numbers.{fair_within, fair_rests}
 use Rattle.stage.proofs.easing_stage.EasingAxisStage.tick.Goals as goal
 
 -- the new position is whole and within the reach, and without power the axis stays where it is
-pub invariant-of-self : goal.invariant-of-self
-invariant-of-self c =
+pub invariant_of-self : goal.invariant_of-self
+invariant_of-self c =
     let a = c.args.self.now in
     let r = c.travelled.result in
     let fit : SFits w32 c.travelled.result = search rules in

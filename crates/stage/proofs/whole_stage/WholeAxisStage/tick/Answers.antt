@@ -4,8 +4,8 @@ use Rattle.drive.proofs.Numbers.{fair_within, fair_rests}
 use Rattle.stage.proofs.whole_stage.WholeAxisStage.tick.Goals as goal
 
 -- the new position is within the reach, and without power the axis stays where it is
-pub invariant-of-self : goal.invariant-of-self
-invariant-of-self c =
+pub invariant_of-self : goal.invariant_of-self
+invariant_of-self c =
     let a = c.args.self.now in
     let fit : SFits w32 c.travelled-self.result = search rules in
     let within = fair_within a.position c.travelled-self.result a.target a.reach c.travelled-self.ensures.fair a.position_in a.target_in in
