@@ -11,16 +11,13 @@ invariant_of-self c =
     let r = c.travelled.result in
     let fit : SFits w32 c.travelled.result = search rules in
     let is : i32_of c.exact-self.result ≡ r = c.exact-self.ensures.value ∙ to_z-of_z w32 r fit in
-    let within = fair_within (i32_of a.position) r (i32_of a.target) a.reach c.travelled.ensures.fair a.position_in a.target_in in (
-      a.some_reach,
-      (
-        a.most_reach,
-        (
-          c.exact-self.ensures.whole,
-          (
-            rw is within,
-            (a.target_whole, (a.target_in, (λ off. fair_rests (i32_of a.position) r (i32_of a.target) c.travelled.ensures.fair (a.unpowered off) ∙ sym is, tt))),
-          ),
-        ),
-      ),
-    )
+    let within = fair_within (i32_of a.position) r (i32_of a.target) a.reach c.travelled.ensures.fair a.position_in a.target_in in
+    record {
+      some_reach = a.some_reach;
+      most_reach = a.most_reach;
+      position_whole = c.exact-self.ensures.whole;
+      position_in = rw is within;
+      target_whole = a.target_whole;
+      target_in = a.target_in;
+      unpowered = λ off. fair_rests (i32_of a.position) r (i32_of a.target) c.travelled.ensures.fair (a.unpowered off) ∙ sym is;
+    }

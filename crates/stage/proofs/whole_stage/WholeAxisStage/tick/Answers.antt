@@ -9,4 +9,10 @@ invariant_of-self c =
     let a = c.args.self.now in
     let fit : SFits w32 c.travelled-self.result = search rules in
     let within = fair_within a.position c.travelled-self.result a.target a.reach c.travelled-self.ensures.fair a.position_in a.target_in in
-    (a.some_reach, (a.most_reach, (rw to_z-of_z within, (a.target_in, (λ off. rw to_z-of_z (fair_rests a.position c.travelled-self.result a.target c.travelled-self.ensures.fair (a.unpowered off)), tt)))))
+    record {
+      some_reach = a.some_reach;
+      most_reach = a.most_reach;
+      position_in = rw to_z-of_z within;
+      target_in = a.target_in;
+      unpowered = λ off. rw to_z-of_z (fair_rests a.position c.travelled-self.result a.target c.travelled-self.ensures.fair (a.unpowered off));
+    }
