@@ -6,7 +6,7 @@ use Rattle.std.specs.List.{prefix_len}
 use Rattle.std.specs.Option.{option_map}
 use Rattle.std.proofs.lemmas.Fmt.{decimal_by_steps, length-decimal-le}
 use Rattle.std.proofs.lemmas.List.{append-nil, append_assoc, length-append, take_at, drop_at}
-use Rattle.std.proofs.lemmas.Bool.{cond-true, cond-false, cond_both, eq_eqb, ne_eqb, eqb-true, le-ltb}
+use Rattle.std.proofs.lemmas.Bool.{cond-true, cond-false, cond_both, eq-eqb, ne_eqb, eqb-true, le-ltb}
 use Rattle.std.proofs.lemmas.Bool.Decides.{nat_tests}
 use Rattle.number.specs.Digits.{digit, all_digits, number_on, number}
 use Rattle.number.specs.Decimals.{fraction_of, worth, and_then, magnitude_of, signed_of, read_decimal}

@@ -3,7 +3,7 @@ use Rattle.std.proofs.Common.{◌≡◌, ℕ, zero, suc, ◌+◌, ◌-◌, ◌*�
 use Rattle.std.specs.List.{prefix_len}
 use Rattle.std.proofs.lemmas.Bool.Decides.{nat_tests}
 use Rattle.number.specs.Digits.{digit, all_digits, number_on, number}
-use Rattle.std.proofs.lemmas.Bool.{eq_eqb}
+use Rattle.std.proofs.lemmas.Bool.{eq-eqb}
 use Rattle.number.specs.Decimals.{fits_decimal, worth}
 use Rattle.std.proofs.lemmas.List.{at_drop_more, at_drop_all}
 use native.Mathlib.Nat.{pow-le-pow_right}
@@ -56,4 +56,4 @@ leading_take p (x ∷ xs) =
     ] refl
 
 pub front_digits : (xs ys : List ℕ) → ys ≡ take (prefix_len digit xs) xs → all_digits ys ≡ true
-front_digits xs ys e = ap all_digits e ∙ eq_eqb _ _ (leading_take digit xs)
+front_digits xs ys e = ap all_digits e ∙ eq-eqb _ _ (leading_take digit xs)

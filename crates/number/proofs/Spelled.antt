@@ -3,7 +3,7 @@ use Rattle.std.proofs.Common.{◌≡◌, ℕ, zero, suc, ◌+◌, ◌-◌, ◌/�
 use lib.Signed.{lt_z}
 use Rattle.std.proofs.lemmas.Fmt.{AppendsLastDigit, decimal_digit, decimal_step, length-decimal-le, decimal_from_appends}
 use Rattle.std.proofs.lemmas.List.{append_assoc, append-nil, length-append}
-use Rattle.std.proofs.lemmas.Bool.{cond-true, cond-false, eq_eqb, ne_eqb, and_parts, ltb-true, lt-ltb}
+use Rattle.std.proofs.lemmas.Bool.{cond-true, cond-false, eq-eqb, ne_eqb, and_parts, ltb-true, lt-ltb}
 use Rattle.number.specs.Texts.{digits_of, whole_text, last_digits, point, fixed, when, shortened, setting_text, rounded, position_text}
 
 spells : AppendsLastDigit digits_of
@@ -34,7 +34,7 @@ length_last (suc k) n = let more = length_last k (n / 10) in simp length-append 
 -- u is ten to the power k
 pub fixed_none : (k n u : ℕ) → k ≡ 0 → u ≡ 10 ^ k → whole_text (n / u) ≡ fixed k n
 unfolding fixed
-fixed_none k n u z e = ap (λ v. whole_text (n / v)) e ∙ sym (append-nil _) ∙ ap (λ l. whole_text (n / 10 ^ k) ++ l) (sym (cond-true _ _ _ (eq_eqb k 0 z)))
+fixed_none k n u z e = ap (λ v. whole_text (n / v)) e ∙ sym (append-nil _) ∙ ap (λ l. whole_text (n / 10 ^ k) ++ l) (sym (cond-true _ _ _ (eq-eqb k 0 z)))
 
 pub fixed_some : (k n u : ℕ) → 0 < k → u ≡ 10 ^ k → (whole_text (n / u) ++ (46 ∷ [])) ++ last_digits k (n % u) ≡ fixed k n
 unfolding fixed

@@ -8,7 +8,7 @@ use Rattle.number.proofs.texts.write_position.Goals as goal
 pub returns : goal.returns
 returns c = record {
   text =
-      c.write-signed.ensures
-      ∙ ap (write c.args.out.now c.args.at) (position_is c.args.millionths _ c.unsigned-abs.result _ _ _ (omega arith) (grind (arith, to_z-of_z)) c.round-n.ensures (c.shows-minus.ensures ∙ grind (arith, to_z-of_z)));
+      c.write_signed.ensures
+      ∙ ap (write c.args.out.now c.args.at) (position_is c.args.millionths _ c.unsigned_abs.result _ _ _ (omega arith) (grind (arith, to_z-of_z)) c.round-n.ensures (c.shows_minus.ensures ∙ grind (arith, to_z-of_z)));
   again = position_again _ c.args.millionths (omega arith);
 }
