@@ -1,4 +1,4 @@
-use Rattle.std.proofs.Common.{◌≡◌, ◌+◌, ◌*◌, ◌^◌, ◌<◌, ◌≤◌, true, length, sym, arith}
+use Rattle.std.proofs.Common.{sym, arith}
 use Rattle.number.proofs.Runs.{short, small, worth_some, allowed_parts}
 use Rattle.number.proofs.decimal.in_millionths.Goals as goal
 

@@ -1,5 +1,5 @@
 use Rattle.std.proofs.Common.{ap, ◌∙◌, arith}
-use Rattle.std.proofs.lemmas.Int.{ints, to_z-of_z}
+use Rattle.std.proofs.lemmas.Int.{to_z-of_z}
 use Rattle.number.specs.Writing.{write}
 use Rattle.number.proofs.Spelled.{position_is}
 use Rattle.number.proofs.Near.{position_again}
