@@ -1,6 +1,6 @@
 -- Steps of the loops over blanks.
 use Rattle.std.proofs.Common.{◌≡◌, ℕ, suc, ◌+◌, ◌-◌, ◌<◌, ◌≤◌, List, [], ◌∷◌, length, get_or, take, drop, sym, refl, ap, ◌∙◌, ⊎_elim, one-add, arith}
-use Rattle.std.proofs.lemmas.Bool.{eq_eqb, ne_eqb, cases_lt}
+use Rattle.std.proofs.lemmas.Bool.{eq-eqb, ne_eqb, cases_lt}
 use Rattle.std.specs.List.{prefix_len, suffix_len}
 use Rattle.std.proofs.lemmas.List.Sums.{suffix_len-take_yes, suffix_len-take_no}
 use Rattle.std.proofs.lemmas.List.{take_all, take-take, length-take-le, take_rest}
@@ -11,7 +11,7 @@ use Rattle.command.specs.Lines.{blank}
 pub cut_more : (xs : List ℕ) → 0 < length xs → get_or xs (length xs - 1) 0 ≡ 32 → take (length (take (length xs - 1) xs) - suffix_len blank (take (length xs - 1) xs)) (take (length xs - 1) xs) ≡ take (length xs - suffix_len blank xs) xs
 cut_more xs h e =
     let all = take_all (length xs) xs (omega arith) in
-    let more = suffix_len-take_yes blank xs (length xs) 0 h (omega arith) (eq_eqb _ 32 e) in
+    let more = suffix_len-take_yes blank xs (length xs) 0 h (omega arith) (eq-eqb _ 32 e) in
     let len = length-take-le (length xs - 1) xs (omega arith) in
     let back = take-take (length xs - 1 - suffix_len blank (take (length xs - 1) xs)) (length xs - 1) xs (omega arith) in
     grind arith
