@@ -1,5 +1,5 @@
 -- Numbers that are cut off at 1000.
-use Rattle.std.proofs.Common.{◌≡◌, ℕ, ◌+◌, ◌-◌, ◌*◌, ◌<◌, ◌≤◌, min, List, [], ◌∷◌, sym, refl, ap, ◌∙◌, arith}
+use Rattle.std.proofs.Common.{◌≡◌, ℕ, ◌+◌, ◌-◌, ◌*◌, List, [], ◌∷◌, arith}
 use Rattle.number.specs.Digits.{number_on}
 use Rattle.command.specs.Commands.{capped}
 

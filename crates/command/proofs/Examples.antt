@@ -1,9 +1,8 @@
 -- Worked examples of the definitions.
-use Rattle.std.proofs.Common.{◌≡◌, ℕ, List, [], ◌∷◌, map, length, Some, None, codes, refl}
-use Rattle.command.specs.declared.mnemonic.Mnemonic.TheVariants.{Pa, St, Va, Hl}
-use Rattle.command.specs.Lines.{line_of}
+use Rattle.std.proofs.Common.{◌≡◌, [], ◌∷◌, map, length, Some, None, codes, refl}
+use Rattle.command.specs.declared.mnemonic.Mnemonic.TheVariants.{Pa}
 use Rattle.command.specs.Mnemonics.{capitals_name}
-use Rattle.command.specs.Commands.{Command, Field, field, is_prefix, is_mnemonic, is_parameter, is_question, parameters_from, command_of, in_front, commands_from, commands_of, prefix_number}
+use Rattle.command.specs.Commands.{field, is_prefix, is_mnemonic, is_parameter, parameters_from, command_of, in_front, commands_from, commands_of, prefix_number}
 
 move : commands_of (codes " 1 pa 2.5, ;; ?") ≡ record {
   column = 2;

@@ -1,11 +1,8 @@
 -- Parts of a line, as they are read.
-use Rattle.std.proofs.Common.{◌≡◌, ℕ, zero, suc, ◌+◌, ◌-◌, ◌<◌, ◌≤◌, Bool, true, false, cond, not, eqb, List, [], ◌∷◌, map, length, get_or, take, drop, sym, refl, ap, ◌∙◌, add-one, one-add, arith}
+use Rattle.std.proofs.Common.{◌≡◌, ℕ, suc, ◌+◌, ◌-◌, ◌<◌, ◌≤◌, true, false, cond, List, [], ◌∷◌, length, take, drop, sym, refl, ap, ◌∙◌, one-add, arith}
 use Rattle.std.specs.List.{prefix_len}
-use Rattle.std.proofs.lemmas.Bool.{cond-true, cond-false, cond_both, eq-eqb, ne_eqb}
-use Rattle.std.proofs.lemmas.List.{length-drop, drop-drop, take_rest, take_all}
-use Rattle.std.proofs.lemmas.List.Sums.{prefix_len-le-length}
-use Rattle.std.proofs.lemmas.Bool.Decides.{nat_tests}
-use Rattle.command.specs.Lines.{Part, blank, apart, trimmed, bare, up_to, begun, later, parts}
+use Rattle.std.proofs.lemmas.List.{length-drop, drop-drop, take_rest}
+use Rattle.command.specs.Lines.{blank, apart, trimmed, bare, up_to, begun, later, parts}
 
 -- a part that is trimmed
 pub bare_is : {n : ℕ} {bs : List ℕ} (c : ℕ) (xs : List ℕ) → n ≡ prefix_len blank xs → bs ≡ trimmed xs → (c + n, bs) ≡ bare (c, xs)

@@ -1,13 +1,12 @@
 -- Where commands and their fields stand in the line.
-use Rattle.std.proofs.Common.{◌≡◌, ℕ, zero, suc, ◌+◌, ◌-◌, ◌<◌, ◌≤◌, min, Bool, true, false, cond, ◌&&◌, ◌||◌, eqb, ltb, List, [], ◌∷◌, ◌++◌, map, length, get_or, take, drop, Some, None, Option, sym, refl, ap, ◌∙◌, subst, ⊎_elim, one-add, arith}
+use Rattle.std.proofs.Common.{◌≡◌, ℕ, suc, ◌+◌, ◌-◌, ◌<◌, ◌≤◌, min, Bool, true, false, cond, ◌||◌, eqb, ltb, List, [], ◌∷◌, ◌++◌, map, length, get_or, take, drop, Some, None, sym, refl, ap, ◌∙◌, ⊎_elim, one-add, arith}
 use Rattle.std.specs.List.{prefix_len, suffix_len, AllByRecursion as All}
 use Rattle.std.proofs.lemmas.List.{take_rest, take-take, drop-take, drop-drop, length-take, length-drop, take_all, get_or-take, get_or-drop}
 use Rattle.std.proofs.lemmas.List.Sums.{prefix_len-le-length}
-use Rattle.std.proofs.lemmas.Bool.{cond-true, cond-false, cond_both, eqb-false, ltb-false, cases_lt}
-use Rattle.std.proofs.lemmas.Bool.Decides.{nat_tests}
+use Rattle.std.proofs.lemmas.Bool.{cond_both, eqb-false, ltb-false, cases_lt}
 use Rattle.number.specs.Digits.{digits_before, digit}
-use Rattle.command.specs.Lines.{Part, blank, apart, trimmed, bare, past, up_to, begun, later, parts}
-use Rattle.command.specs.Commands.{Kind, Field, field, is_prefix, is_mnemonic, is_parameter, is_question, Command, prefix_of, letters_of, asks, question_of, parameters_from, parameters_of, body_of, command_of, in_front, all_commands, commands_from}
+use Rattle.command.specs.Lines.{Part, blank, apart, trimmed, bare, past, up_to, later, parts}
+use Rattle.command.specs.Commands.{Field, field, is_prefix, is_mnemonic, is_parameter, is_question, prefix_of, letters_of, asks, question_of, parameters_from, parameters_of, body_of, command_of, in_front, all_commands, commands_from}
 use Rattle.command.specs.Laws.{Stands, listed, fields_of, Placed, CommandsPlaced}
 use Rattle.command.proofs.Parted.{up_to_is}
 

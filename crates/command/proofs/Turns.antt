@@ -1,11 +1,10 @@
 -- One command after another, and one parameter.
-use Rattle.std.proofs.Common.{◌≡◌, ℕ, ◌+◌, ◌-◌, ◌<◌, ◌≤◌, Bool, true, false, cond, eqb, ltb, List, [], ◌∷◌, map, length, get_or, take, drop, Some, None, Option, sym, refl, ap, ◌∙◌, arith}
+use Rattle.std.proofs.Common.{◌≡◌, ℕ, ◌+◌, ◌-◌, ◌<◌, ◌≤◌, true, false, eqb, ltb, List, [], ◌∷◌, map, length, get_or, take, drop, Some, Option, sym, refl, ap, ◌∙◌, arith}
 use Rattle.std.specs.List.{prefix_len}
 use Rattle.command.specs.declared.mnemonic.Mnemonic.{Mnemonic}
 use Rattle.command.specs.Mnemonics.{mnemonic_of}
 use Rattle.std.proofs.lemmas.Bool.{cond-true, cond-false, le-ltb}
-use Rattle.number.specs.Digits.{digits_before}
-use Rattle.command.specs.Lines.{Part, apart, trimmed, bare, past, parts}
+use Rattle.command.specs.Lines.{Part, apart, bare, past}
 use Rattle.command.specs.Commands.{Field, field, is_mnemonic, is_parameter, Command, letters_of, named, question_of, parameters_of, prefix_of, made, body_of, command_of, in_front, all_commands, commands_from, parameters_from}
 use Rattle.command.proofs.Parted.{cut_more, cut_last}
 

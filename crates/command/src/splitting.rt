@@ -62,7 +62,7 @@ impl<'a> Commands<'a> {
         ensures within { IfSome result (λ c. c.rest.column + length c.rest.bytes.now ≤ end_of self.old) }
         ensures end { end_of self.new ≤ end_of self.old }
         ensures less { OnSome result (length self.new.rest.now < length self.old.rest.now) }
-        ensures used { BySome result (Unit {0}) (λ c. room_left self.new + (least_size (said c) + 1) ≤ room_left self.old) }
+        ensures used { IfSome result (λ c. room_left self.new + (least_size (said c) + 1) ≤ room_left self.old) }
     {
         while !self.rest.is_empty() {
             let text = trim(self.take_part());

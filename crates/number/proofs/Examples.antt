@@ -1,7 +1,7 @@
 -- Worked examples of the definitions.
-use Rattle.std.proofs.Common.{◌≡◌, List, [], ◌∷◌, pos, negsuc, Some, None, codes, refl}
+use Rattle.std.proofs.Common.{◌≡◌, pos, negsuc, Some, None, codes, refl}
 use Rattle.number.specs.Decimals.{magnitude_of, signed_of, read_decimal}
-use Rattle.number.specs.Texts.{whole_text, fixed, shortened, setting_text, position_text, list_text}
+use Rattle.number.specs.Texts.{whole_text, fixed, shortened, setting_text, position_text}
 use Rattle.number.specs.Writing.{write}
 
 minus_ten : read_decimal (codes "-10") ≡ Some (negsuc 9999999)

@@ -1,5 +1,5 @@
 -- How long texts are, for those who show that a reply fits its buffer.
-use Rattle.std.proofs.Common.{◌≡◌, ℕ, ◌+◌, ◌-◌, ◌*◌, ◌/◌, ◌%◌, ◌^◌, ◌<◌, ◌≤◌, Bool, cond, ◌&&◌, eqb, ltb, List, [], ◌∷◌, ◌++◌, length, ℤ, pos, nat_abs, ap, ◌∙◌, div-add-mod', arith}
+use Rattle.std.proofs.Common.{◌≡◌, ℕ, ◌+◌, ◌-◌, ◌*◌, ◌/◌, ◌%◌, ◌^◌, ◌<◌, ◌≤◌, Bool, ◌&&◌, eqb, ltb, [], ◌∷◌, length, ℤ, pos, nat_abs, ap, div-add-mod', arith}
 use native.Mathlib.Nat.{pow-le-pow_right}
 use lib.Signed.{lt_z}
 use Rattle.std.proofs.lemmas.Fmt.{length-decimal-le}

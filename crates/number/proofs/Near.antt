@@ -1,9 +1,9 @@
 -- A rounded position is the nearest multiple of its unit.
-use Rattle.std.proofs.Common.{◌≡◌, ℕ, zero, suc, ◌+◌, ◌-◌, ◌*◌, ◌/◌, ◌%◌, ◌^◌, ◌<◌, ◌≤◌, Bool, true, false, cond, ◌&&◌, ltb, List, ◌++◌, ℤ, pos, negsuc, ◌-ℤ◌, ◌*ℤ◌, neg_ℤ, nat_abs, Some, None, Option, sym, refl, ap, ◌∙◌, subst, ⊎_elim, mod-lt, add-mul, mul-le-mul, div-add-mod', zero-mul, arith, MatchOption}
+use Rattle.std.proofs.Common.{◌≡◌, ℕ, zero, suc, ◌+◌, ◌-◌, ◌*◌, ◌/◌, ◌%◌, ◌<◌, ◌≤◌, Bool, false, cond, ◌&&◌, ltb, ◌++◌, ℤ, pos, negsuc, ◌*ℤ◌, neg_ℤ, nat_abs, Some, sym, refl, ap, ◌∙◌, subst, ⊎_elim, mod-lt, add-mul, mul-le-mul, div-add-mod', zero-mul, arith, MatchOption}
 use native.Mathlib.Nat.{one-le-pow}
 use lib.Signed.{lt_z}
 use Rattle.std.proofs.lemmas.Int.{ints}
-use Rattle.std.proofs.lemmas.Bool.{cond-true, cond-false, cases_lt, cases_order, cases_Bool, le-ltb, ltb-false, and_left}
+use Rattle.std.proofs.lemmas.Bool.{cond-true, cond-false, cases_order, cases_Bool, le-ltb, ltb-false, and_left}
 use Rattle.number.specs.Decimals.{read_decimal}
 use Rattle.number.specs.Texts.{unit, rounded, when, fixed, position_text}
 use Rattle.number.specs.Laws.{distance, Nearest}

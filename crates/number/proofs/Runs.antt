@@ -1,8 +1,8 @@
 -- Runs of digits.
-use Rattle.std.proofs.Common.{◌≡◌, ℕ, zero, suc, ◌+◌, ◌-◌, ◌*◌, ◌^◌, ◌<◌, ◌≤◌, Bool, true, false, cond, List, [], ◌∷◌, length, get_or, take, drop, Some, None, sym, refl, ap, ◌∙◌, lt_of_lt_of_le, mul-le-mul, pow-suc, add-one, one-add, arith}
+use Rattle.std.proofs.Common.{◌≡◌, ℕ, zero, suc, ◌+◌, ◌-◌, ◌*◌, ◌^◌, ◌<◌, ◌≤◌, Bool, true, false, cond, List, [], ◌∷◌, length, get_or, take, drop, Some, sym, refl, ap, ◌∙◌, mul-le-mul, pow-suc, add-one, one-add, arith}
 use Rattle.std.specs.List.{prefix_len}
 use Rattle.std.proofs.lemmas.Bool.Decides.{nat_tests}
-use Rattle.number.specs.Digits.{digit, all_digits, number_on, number}
+use Rattle.number.specs.Digits.{digit, all_digits, number_on}
 use Rattle.std.proofs.lemmas.Bool.{eq-eqb}
 use Rattle.number.specs.Decimals.{fits_decimal, worth}
 use Rattle.std.proofs.lemmas.List.{at_drop_more, at_drop_all}

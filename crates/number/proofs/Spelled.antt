@@ -1,10 +1,10 @@
 -- The texts by the steps that write them.
-use Rattle.std.proofs.Common.{◌≡◌, ℕ, zero, suc, ◌+◌, ◌-◌, ◌/◌, ◌%◌, ◌^◌, ◌<◌, ◌≤◌, min, Bool, true, false, cond, ◌&&◌, eqb, ltb, List, [], ◌∷◌, ◌++◌, length, ℤ, pos, nat_abs, decimal, sym, refl, ap, ◌∙◌, arith, rules}
+use Rattle.std.proofs.Common.{◌≡◌, ℕ, zero, suc, ◌+◌, ◌-◌, ◌/◌, ◌%◌, ◌^◌, ◌<◌, ◌≤◌, Bool, true, false, ◌&&◌, eqb, ltb, [], ◌∷◌, ◌++◌, length, ℤ, pos, nat_abs, decimal, sym, refl, ap, ◌∙◌, arith, rules}
 use lib.Signed.{lt_z}
 use Rattle.std.proofs.lemmas.Fmt.{AppendsLastDigit, decimal_digit, decimal_step, length-decimal-le, decimal_from_appends}
 use Rattle.std.proofs.lemmas.List.{append_assoc, append-nil, length-append}
 use Rattle.std.proofs.lemmas.Bool.{cond-true, cond-false, eq-eqb, ne_eqb, and_parts, ltb-true, lt-ltb}
-use Rattle.number.specs.Texts.{digits_of, whole_text, last_digits, point, fixed, when, shortened, setting_text, rounded, position_text}
+use Rattle.number.specs.Texts.{digits_of, whole_text, last_digits, fixed, when, shortened, setting_text, rounded, position_text}
 
 spells : AppendsLastDigit digits_of
 spells = search rules

@@ -56,7 +56,7 @@ impl Item for Position {
 
 /// Writes items parted by commas, and answers the offset behind them.
 pub fn write_list<T: Item>(out: &mut [u8], at: usize, items: &[T]) -> usize
-    ensures { (result, out.new) ≡ write out.old at (list_text (map text items.now)) }
+    ensures { (result, out.new) ≡ write out.old at (list_text (map T.text items.now)) }
 {
     let mut end = at;
     for (i, item) in items.iter().enumerate() {

@@ -6,8 +6,8 @@ use Rattle.command.proofs.bytes.trim.Goals as goal
 
 pub returns : goal.returns
 returns c =
-    let bytes : c.cut-blanks-bytes.result.now ≡ trimmed c.args.text.bytes.now = search (rules, take_rest) in
+    let bytes : c.cut_blanks-bytes.result.now ≡ trimmed c.args.text.bytes.now = search (rules, take_rest) in
     record {
-      part = bare_is c.args.text.column c.args.text.bytes.now c.blanks-before-front.ensures.count bytes;
-      room = omega (arith, simp (length-take, length-drop) at (ap length c.cut-blanks-bytes.ensures));
+      part = bare_is c.args.text.column c.args.text.bytes.now c.blanks_before-front.ensures.count bytes;
+      room = omega (arith, simp (length-take, length-drop) at (ap length c.cut_blanks-bytes.ensures));
     }

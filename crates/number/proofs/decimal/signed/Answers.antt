@@ -5,34 +5,34 @@ use Rattle.std.proofs.lemmas.Int.{ints}
 use Rattle.number.specs.Decimals.{signed_of}
 use Rattle.number.proofs.decimal.signed.Goals as goal
 
-pub returns-in-err-magnitude : goal.returns-in-err-magnitude
+pub returns-in_err-magnitude-in-45 : goal.returns-in_err-magnitude-in-45
 unfolding signed_of
-returns-in-err-magnitude c = let e = take_rest c.args.text.now 1 in grind (arith, nat_tests)
+returns-in_err-magnitude-in-45 c = let e = take_rest c.args.text.now 1 in grind (arith, nat_tests)
 
-pub returns-in-err-magnitude-2 : goal.returns-in-err-magnitude-2
+pub returns-in_err-magnitude-in-43 : goal.returns-in_err-magnitude-in-43
 unfolding signed_of
-returns-in-err-magnitude-2 c = let e = take_rest c.args.text.now 1 in grind (arith, nat_tests)
+returns-in_err-magnitude-in-43 c = let e = take_rest c.args.text.now 1 in grind (arith, nat_tests)
 
-pub returns-in-err-magnitude-3 : goal.returns-in-err-magnitude-3
+pub returns-in_err-magnitude-in_default : goal.returns-in_err-magnitude-in_default
 unfolding signed_of
-returns-in-err-magnitude-3 c = search rules
+returns-in_err-magnitude-in_default c = search rules
 
-pub returns-in-ok-magnitude : goal.returns-in-ok-magnitude
+pub returns-in_ok-magnitude-in-45 : goal.returns-in_ok-magnitude-in-45
 unfolding signed_of
-returns-in-ok-magnitude c =
+returns-in_ok-magnitude-in-45 c =
     let e = take_rest c.args.text.now 1 in
-    let m = c.in-ok-magnitude.ensures.value in
+    let m = c.in_ok-magnitude-in-45.ensures.value in
     grind (arith, nat_tests)
 
-pub returns-in-ok-magnitude-2 : goal.returns-in-ok-magnitude-2
+pub returns-in_ok-magnitude-in-43 : goal.returns-in_ok-magnitude-in-43
 unfolding signed_of
-returns-in-ok-magnitude-2 c =
+returns-in_ok-magnitude-in-43 c =
     let e = take_rest c.args.text.now 1 in
-    let n = c.in-ok-magnitude-2.field-0 in
-    let z : to_z w64 n ≡ pos n = omega (arith, ints, c.in-ok-magnitude-2.ensures.bound) in
-    let m = c.in-ok-magnitude-2.ensures.value in
+    let n = c.in_ok-magnitude-in-43.field-0 in
+    let z : to_z w64 n ≡ pos n = omega (arith, ints, c.in_ok-magnitude-in-43.ensures.bound) in
+    let m = c.in_ok-magnitude-in-43.ensures.value in
     grind (arith, nat_tests)
 
-pub returns-in-ok-magnitude-3 : goal.returns-in-ok-magnitude-3
+pub returns-in_ok-magnitude-in_default : goal.returns-in_ok-magnitude-in_default
 unfolding signed_of
-returns-in-ok-magnitude-3 c = search rules
+returns-in_ok-magnitude-in_default c = search rules

@@ -1,4 +1,4 @@
-use Rattle.std.proofs.Common.{arith, rules}
+use Rattle.std.proofs.Common.{arith}
 use Rattle.std.proofs.lemmas.List.Sums.{prefix_len-drop_yes, prefix_len-drop_no, prefix_len-drop_all}
 use Rattle.std.proofs.lemmas.Bool.Decides.{nat_tests}
 use Rattle.number.proofs.digits.digits_before.Goals as goal
@@ -6,8 +6,8 @@ use Rattle.number.proofs.digits.digits_before.Goals as goal
 pub loop-count-preserved : goal.loop-count-preserved
 loop-count-preserved c = grind (arith, nat_tests, prefix_len-drop_yes)
 
-pub returns-else-is-ascii-digit : goal.returns-else-is-ascii-digit
-returns-else-is-ascii-digit c = grind (arith, nat_tests, prefix_len-drop_no)
+pub returns-else-is_ascii_digit : goal.returns-else-is_ascii_digit
+returns-else-is_ascii_digit c = grind (arith, nat_tests, prefix_len-drop_no)
 
 pub returns-after-loop-count : goal.returns-after-loop-count
 returns-after-loop-count c = grind (arith, prefix_len-drop_all)

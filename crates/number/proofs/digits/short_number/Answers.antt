@@ -2,8 +2,8 @@ use Rattle.std.proofs.Common.{rules}
 use Rattle.number.proofs.Runs.{digit_at, read_more, read_all}
 use Rattle.number.proofs.digits.short_number.Goals as goal
 
-pub overflow-sub-c : goal.overflow-sub-c
-overflow-sub-c c = search (rules, digit_at)
+pub overflow_sub-c : goal.overflow_sub-c
+overflow_sub-c c = search (rules, digit_at)
 
 pub loop-c-preserved : goal.loop-c-preserved
 loop-c-preserved c = read_more c.args.digits.now _ _ _ c.requires.1 c.loop-c-test.true c.from.ensures c.loop-c.invariant.0 c.loop-c.invariant.1

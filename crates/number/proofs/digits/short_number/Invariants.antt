@@ -1,5 +1,5 @@
-use Rattle.std.proofs.Common.{◌≡◌, ◌^◌, ◌<◌, ◌≤◌, true, length, take, drop}
-use Rattle.number.specs.Digits.{number_on, all_digits}
+use Rattle.std.proofs.Common.{◌≡◌, ◌^◌, ◌<◌, drop}
+use Rattle.number.specs.Digits.{number_on}
 use Rattle.number.proofs.digits.short_number.Given as goal
 
 abbrev pub invariant-loop-c : goal.invariant-loop-c

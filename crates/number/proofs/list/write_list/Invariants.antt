@@ -5,4 +5,4 @@ use Rattle.number.proofs.Listed.{remaining}
 use Rattle.number.proofs.list.write_list.Given as goal
 
 abbrev pub invariant-loop-i : goal.invariant-loop-i
-invariant-loop-i g l = write l.out l.end (remaining l.i (map g.T-as-Item.text (drop l.i l.items))) ≡ write l.initial.out l.at (list_text (map g.T-as-Item.text l.items))
+invariant-loop-i g l = write l.out l.end (remaining l.i (map g.T.Item.text (drop l.i l.items))) ≡ write l.initial.out l.at (list_text (map g.T.Item.text l.items))

@@ -10,5 +10,5 @@ returns-then-count-eq0 t c = sym (ap (write c.args.out.now c.args.at) (last_none
 
 pub returns : goal.returns
 returns t c =
-    write_after _ _ _ _ c.write-digits-last.ensures c.write-byte.ensures
-    ∙ ap (write c.args.out.now c.args.at) (ap (λ d. last_digits (c.args.count - 1) (c.args.n / 10) ++ (d ∷ [])) c.last-digit.ensures ∙ sym (last_more c.args.count c.args.n (omega arith)))
+    write_after _ _ _ _ c.write_digits-last.ensures c.write_byte.ensures
+    ∙ ap (write c.args.out.now c.args.at) (ap (λ d. last_digits (c.args.count - 1) (c.args.n / 10) ++ (d ∷ [])) c.last_digit.ensures ∙ sym (last_more c.args.count c.args.n (omega arith)))

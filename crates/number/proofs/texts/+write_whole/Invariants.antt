@@ -1,4 +1,4 @@
 use Rattle.number.proofs.texts.+write_whole.Given as goal
 
-abbrev pub decreases-write-whole : goal.decreases-write-whole
-decreases-write-whole l = l.n
+abbrev pub decreases-write_whole : goal.decreases-write_whole
+decreases-write_whole l = l.n

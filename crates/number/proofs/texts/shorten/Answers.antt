@@ -8,8 +8,8 @@ loop-n-preserved c = ((shortened_more _ _ (sym c.loop-n-test.ensures)).0 ∙ c.l
 pub loop-n-smaller : goal.loop-n-smaller
 loop-n-smaller c = omega (arith, (shortened_more c.loop-n.places c.loop-n.n (sym c.loop-n-test.ensures)).1)
 
-pub overflow-sub-places : goal.overflow-sub-places
-overflow-sub-places c = (shortened_more _ _ (sym c.loop-n-test.ensures)).1
+pub overflow_sub-places : goal.overflow_sub-places
+overflow_sub-places c = (shortened_more _ _ (sym c.loop-n-test.ensures)).1
 
 pub returns : goal.returns
 returns c = record { value = sym (shortened_ends _ _ (sym c.loop-n-test.ensures)) ∙ c.loop-n.invariant.0; bound = c.loop-n.invariant.1 }

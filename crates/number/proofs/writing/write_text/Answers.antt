@@ -6,7 +6,7 @@ use Rattle.number.proofs.writing.write_text.Goals as goal
 
 pub loop-byte-preserved : goal.loop-byte-preserved
 loop-byte-preserved c =
-    write_more _ _ _ _ c.write-byte-end.ensures
+    write_more _ _ _ _ c.write_byte-end.ensures
     ∙ sym (at_drop_more (write c.loop-byte.out c.loop-byte.end) c.args.text.now c.loop-byte.byte-index 0 c.loop-byte-test.true)
     ∙ c.loop-byte.invariant
 

@@ -3,11 +3,11 @@ use Rattle.std.proofs.lemmas.Bool.Decides.{nat_tests}
 use Rattle.command.proofs.Turns.{turn_last, turn_more}
 use Rattle.command.proofs.commands.Commands.take_part.Goals as goal
 
-pub returns-in-default : goal.returns-in-default
-returns-in-default c =
-    let none : length c.split-at.result.1.now ≡ 0 = grind (arith, nat_tests) in
+pub returns-in_default : goal.returns-in_default
+returns-in_default c =
+    let none : length c.split_at.result.1.now ≡ 0 = grind (arith, nat_tests) in
     record {
-      part = turn_last _ _ _ _ _ c.before-semicolon-n.ensures.count c.split-at.ensures.front c.split-at.ensures.back none;
+      part = turn_last _ _ _ _ _ c.before_semicolon-n.ensures.count c.split_at.ensures.front c.split_at.ensures.back none;
       within = search rules;
       end = search rules;
       less = search rules;
@@ -16,9 +16,9 @@ returns-in-default c =
 
 pub returns-in-len1-up : goal.returns-in-len1-up
 returns-in-len1-up c =
-    let some : 0 < length c.split-at.result.1.now = grind (arith, nat_tests) in
+    let some : 0 < length c.split_at.result.1.now = grind (arith, nat_tests) in
     record {
-      part = turn_more _ _ _ _ _ c.before-semicolon-n.ensures.count c.split-at.ensures.front c.split-at.ensures.back some c.column-behind-self.ensures;
+      part = turn_more _ _ _ _ _ c.before_semicolon-n.ensures.count c.split_at.ensures.front c.split_at.ensures.back some c.column_behind-self.ensures;
       within = search rules;
       end = search rules;
       less = search rules;

@@ -1,4 +1,4 @@
-use Rattle.std.proofs.Common.{◌≡◌, ◌<◌, [], ◌∷◌, length, sym, ap, ◌∙◌, arith}
+use Rattle.std.proofs.Common.{◌≡◌, ◌<◌, length, ap, ◌∙◌, arith}
 use Rattle.std.proofs.lemmas.List.{take_rest, length-drop}
 use Rattle.std.proofs.lemmas.Bool.Decides.{nat_tests}
 use Rattle.command.specs.Views.{given_from}
@@ -6,12 +6,12 @@ use Rattle.command.specs.Held.{left_of}
 use Rattle.command.proofs.Turns.{give_last, give_more}
 use Rattle.command.proofs.parameters.Parameters.next_parameter.Goals as goal
 
-pub returns-in-default : goal.returns-in-default
-returns-in-default c =
-    let none : length c.split-at.result.1.now ≡ 0 = grind (arith, nat_tests) in
-    let was = c.in-ok-rest.was in
+pub returns-in_default : goal.returns-in_default
+returns-in_default c =
+    let none : length c.split_at.result.1.now ≡ 0 = grind (arith, nat_tests) in
+    let was = c.in_ok-rest.was in
     record {
-      next = ap (given_from c.args.self.now.column) was ∙ give_last _ _ _ _ _ c.before-comma-n.ensures.count c.split-at.ensures.front c.split-at.ensures.back none c.trim-text.ensures.part;
+      next = ap (given_from c.args.self.now.column) was ∙ give_last _ _ _ _ _ c.before_comma-n.ensures.count c.split_at.ensures.front c.split_at.ensures.back none c.trim-text.ensures.part;
       within = omega (arith, ap left_of was);
       limit = omega (arith, ap left_of was);
       less = omega (arith, ap left_of was);
@@ -19,11 +19,11 @@ returns-in-default c =
 
 pub returns : goal.returns
 returns c =
-    let some : 0 < length c.split-at.result.1.now = grind (arith, nat_tests) in
-    let was = c.in-ok-rest.was in
-    let e = ap length (take_rest c.split-at.result.1.now 1) ∙ length-drop 1 c.split-at.result.1.now in
+    let some : 0 < length c.split_at.result.1.now = grind (arith, nat_tests) in
+    let was = c.in_ok-rest.was in
+    let e = ap length (take_rest c.split_at.result.1.now 1) ∙ length-drop 1 c.split_at.result.1.now in
     record {
-      next = ap (given_from c.args.self.now.column) was ∙ give_more _ _ _ _ _ c.before-comma-n.ensures.count c.split-at.ensures.front c.split-at.ensures.back some c.trim-text.ensures.part c.column-behind-self.ensures;
+      next = ap (given_from c.args.self.now.column) was ∙ give_more _ _ _ _ _ c.before_comma-n.ensures.count c.split_at.ensures.front c.split_at.ensures.back some c.trim-text.ensures.part c.column_behind-self.ensures;
       within = omega (arith, ap left_of was);
       limit = omega (arith, ap left_of was);
       less = omega (arith, ap left_of was);
