@@ -11,6 +11,6 @@ loop-field-preserved c =
     let f = c.in-Some.field in (
       omega arith,
       simp length-set (omega arith),
-      one_more (λ f. fitting (2 ^ 8 - 1) (units f)) c.loop-field.axes c.loop-field.count c.axis-said.result (seen f) (to_give c.next-parameter.new.self) (to_give c.loop-field.given) (omega arith) c.axis-said.ensures c.in-Some.ensures.next
+      one_more (λ f. fitting (2 ^ 8 - 1) (units f)) c.loop-field.axes c.loop-field.count c.axis_said.result (seen f) (to_give c.next_parameter.new.self) (to_give c.loop-field.given) (omega arith) c.axis_said.ensures c.in-Some.ensures.next
           ∙ c.loop-field.invariant.2,
     )

@@ -10,10 +10,10 @@ use Rattle.actions.proofs.collecting.positions_given.Goals as goal
 pub loop-field-preserved : goal.loop-field-preserved
 loop-field-preserved c =
     let f = c.in-Some.field in
-    let z = c.position-said.result in
+    let z = c.position_said.result in
     let fits : SFits w32 z = search rules in (
       omega arith,
       simp length-set (omega arith),
-      one_more (λ f. as_position (value f)) c.loop-field.positions c.loop-field.count (to_z w32 (of_z w32 z)) (seen f) (to_give c.next-parameter.new.self) (to_give c.loop-field.given) (omega arith) (to_z-of_z w32 z fits ∙ c.position-said.ensures) c.in-Some.ensures.next
+      one_more (λ f. as_position (value f)) c.loop-field.positions c.loop-field.count (to_z w32 (of_z w32 z)) (seen f) (to_give c.next_parameter.new.self) (to_give c.loop-field.given) (omega arith) (to_z-of_z w32 z fits ∙ c.position_said.ensures) c.in-Some.ensures.next
           ∙ c.loop-field.invariant.2,
     )

@@ -8,8 +8,8 @@ use Rattle.actions.proofs.grouping.empty_all.Goals as goal
 pub loop-k-preserved : goal.loop-k-preserved
 loop-k-preserved c =
     let gs = (model_of c.args.desk.now).groups in (
-      ap (λ d. d.axes) c.empty-waypoints.ensures ∙ c.loop-k.invariant.0,
-      ap (λ d. d.groups) c.empty-waypoints.ensures
+      ap (λ d. d.axes) c.empty_waypoints.ensures ∙ c.loop-k.invariant.0,
+      ap (λ d. d.groups) c.empty_waypoints.ensures
           ∙ ap (alter (with_waypoints (λ ws. [])) (c.loop-k.k + 1)) c.loop-k.invariant.1
           ∙ alter_next (with_waypoints (λ ws. [])) c.loop-k.k gs (omega arith),
     )

@@ -10,11 +10,11 @@ use Rattle.actions.proofs.performing.act.Goals as goal
 
 pub returns-in-Ws : goal.returns-in-Ws
 returns-in-Ws g c =
-    axis_waited (core_of c.args.desk.now (g.D.Drive.axes c.args.drive.now)) _ c.args.m (said c.args.command.now) c.axis-named-axis.result c.in-Ws.is c.requires.fits c.axis-named-axis.ensures c.wait-still.ensures
+    axis_waited (core_of c.args.desk.now (g.D.Drive.axes c.args.drive.now)) _ c.args.m (said c.args.command.now) c.axis_named-axis.result c.in-Ws.is c.requires.fits c.axis_named-axis.ensures c.wait_still.ensures
 
 pub returns-in-Hw : goal.returns-in-Hw
 returns-in-Hw g c =
-    group_waited (core_of c.args.desk.now (g.D.Drive.axes c.args.drive.now)) _ c.args.m (said c.args.command.now) c.group-named-group.result c.in-Hw.is c.requires.fits c.group-named-group.ensures c.wait-group.ensures
+    group_waited (core_of c.args.desk.now (g.D.Drive.axes c.args.drive.now)) _ c.args.m (said c.args.command.now) c.group_named-group.result c.in-Hw.is c.requires.fits c.group_named-group.ensures c.wait_group.ensures
 
 pub returns-in-Hv : goal.returns-in-Hv
 returns-in-Hv g c =
@@ -22,7 +22,7 @@ returns-in-Hv g c =
     let s = said c.args.command.now in
     let z = c.given-value.result in
     let f : SFits w64 z = search rules in
-    figure_set group_velocity_set k s c.group-named-group.result (to_z w64 (of_z w64 z)) (model_of c.set-group-velocity.new.desk) (subst (λ m. Fits k m s) c.in-Hv.is c.requires.fits) c.group-named-group.ensures (to_z-of_z w64 z f ∙ c.given-value.ensures) c.set-group-velocity.ensures
+    figure_set group_velocity_set k s c.group_named-group.result (to_z w64 (of_z w64 z)) (model_of c.set_group_velocity.new.desk) (subst (λ m. Fits k m s) c.in-Hv.is c.requires.fits) c.group_named-group.ensures (to_z-of_z w64 z f ∙ c.given-value.ensures) c.set_group_velocity.ensures
     ∙ ap (λ m. (does k m s).core) (sym c.in-Hv.is)
 
 pub returns-in-Ha : goal.returns-in-Ha
@@ -31,7 +31,7 @@ returns-in-Ha g c =
     let s = said c.args.command.now in
     let z = c.given-value.result in
     let f : SFits w64 z = search rules in
-    figure_set group_acceleration_set k s c.group-named-group.result (to_z w64 (of_z w64 z)) (model_of c.set-group-acceleration.new.desk) (subst (λ m. Fits k m s) c.in-Ha.is c.requires.fits) c.group-named-group.ensures (to_z-of_z w64 z f ∙ c.given-value.ensures) c.set-group-acceleration.ensures
+    figure_set group_acceleration_set k s c.group_named-group.result (to_z w64 (of_z w64 z)) (model_of c.set_group_acceleration.new.desk) (subst (λ m. Fits k m s) c.in-Ha.is c.requires.fits) c.group_named-group.ensures (to_z-of_z w64 z f ∙ c.given-value.ensures) c.set_group_acceleration.ensures
     ∙ ap (λ m. (does k m s).core) (sym c.in-Ha.is)
 
 pub returns-in-Hd : goal.returns-in-Hd
@@ -40,5 +40,5 @@ returns-in-Hd g c =
     let s = said c.args.command.now in
     let z = c.given-value.result in
     let f : SFits w64 z = search rules in
-    figure_set group_deceleration_set k s c.group-named-group.result (to_z w64 (of_z w64 z)) (model_of c.set-group-deceleration.new.desk) (subst (λ m. Fits k m s) c.in-Hd.is c.requires.fits) c.group-named-group.ensures (to_z-of_z w64 z f ∙ c.given-value.ensures) c.set-group-deceleration.ensures
+    figure_set group_deceleration_set k s c.group_named-group.result (to_z w64 (of_z w64 z)) (model_of c.set_group_deceleration.new.desk) (subst (λ m. Fits k m s) c.in-Hd.is c.requires.fits) c.group_named-group.ensures (to_z-of_z w64 z f ∙ c.given-value.ensures) c.set_group_deceleration.ensures
     ∙ ap (λ m. (does k m s).core) (sym c.in-Hd.is)

@@ -7,4 +7,4 @@ pub returns-in-None : goal.returns-in-None
 returns-in-None c = search (rules, write_nothing)
 
 pub returns-in-Some : goal.returns-in-Some
-returns-in-Some c = record { text = search rules; short = name_short _ _ c.in-Some.ensures.0 c.name-is-short.ensures }
+returns-in-Some c = record { text = search rules; short = name_short _ _ c.in-Some.ensures.0 c.name_is_short.ensures }

@@ -6,6 +6,6 @@ use Rattle.answers.proofs.error_texts.write_message.Goals as goal
 
 pub returns : goal.returns
 returns c = record {
-  text = write_after _ _ _ _ c.write-code-code.ensures.text (write_after _ _ _ _ c.write-comma-blank-blank.ensures (search rules));
-  short = message_text_short (entries c.args.errors.now) c.write-code-code.ensures.short;
+  text = write_after _ _ _ _ c.write_code-code.ensures.text (write_after _ _ _ _ c.write_comma_blank-blank.ensures (search rules));
+  short = message_text_short (entries c.args.errors.now) c.write_code-code.ensures.short;
 }

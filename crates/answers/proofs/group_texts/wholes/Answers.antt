@@ -15,5 +15,5 @@ pub returns : goal.returns
 returns c = record {
   front = front_all (λ n. whole_text n.0) whole_text c.loop-k.all c.args.axes.now c.loop-k.k (omega arith) c.loop-k.invariant.0;
   room = c.loop-k.invariant.1;
-  short = numbers_short c.args.axes.now c.requires (λ i. omega (arith, c.type-inv.axes i));
+  short = numbers_short c.args.axes.now c.requires (λ i. omega (arith, c.type_inv.axes i));
 }

@@ -5,6 +5,6 @@ use Rattle.answers.proofs.replying.end_reply.Goals as goal
 
 pub returns : goal.returns
 returns c = record {
-  text = λ was from text before. write_after was from text line_end before c.write-line-end.ensures;
+  text = λ was from text before. write_after was from text line_end before c.write_line_end.ensures;
   long = λ text. length-append text line_end;
 }

@@ -9,6 +9,6 @@ returns g c =
     let m = c.args.m in
     let command = said c.args.command.now in
     record {
-      text = replied w m command c.args.out.now c.args.at c.reply-error-error.ensures.text c.reply-answer.ensures.text;
-      short = reply_short w m command c.reply-error-error.ensures.short c.reply-answer.ensures.short;
+      text = replied w m command c.args.out.now c.args.at c.reply_error-error.ensures.text c.reply_answer.ensures.text;
+      short = reply_short w m command c.reply_error-error.ensures.short c.reply_answer.ensures.short;
     }

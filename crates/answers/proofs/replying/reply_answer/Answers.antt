@@ -14,8 +14,8 @@ returns-then-not-answers g c = record {
 
 pub returns : goal.returns
 returns g c = record {
-  text = wanted _ _ _ _ c.if-not-answers.ensures (c.end-reply.ensures.text _ _ _ c.write-answer-answer.ensures.text);
+  text = wanted _ _ _ _ c.if-not-answers.ensures (c.end_reply.ensures.text _ _ _ c.write_answer-answer.ensures.text);
   short =
       answer_short _ (among error_commands c.args.m) (is c.args.m Hp) (has_prefix (said c.args.command.now)) _ _ (named_few c.args.desk.now (g.D.Drive.axes c.args.drive.now) (said c.args.command.now))
-      c.write-answer-answer.ensures.short;
+      c.write_answer-answer.ensures.short;
 }

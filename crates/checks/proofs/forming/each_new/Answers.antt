@@ -9,15 +9,15 @@ use Rattle.shape.proofs.Chains.{walk_on, walk_off, broken}
 use Rattle.checks.proofs.Repeats.{has_last, each_new_same, front_more}
 use Rattle.checks.proofs.forming.each_new.Goals as goal
 
-pub returns-in-err-is-new : goal.returns-in-err-is-new
-returns-in-err-is-new c =
+pub returns-in_err-is_new : goal.returns-in_err-is_new
+returns-in_err-is_new c =
     let ps = (said c.args.command.now).parameters in
     let i = c.loop-field.i in
     let earlier = map units (take i ps) in
     let f = seen c.in-Some.field in
-    let more = to_give c.next-parameter.new.self in
-    broken c.from-residual.result c.from-residual.ensures.1
-    ∙ sym (walk_off (each_new earlier) (each_new [] ps) (to_give c.loop-field.given) f more (needs (not (has (units f) earlier)) (entry GroupAxisDuplicated f.column)) (each_new (units f ∷ earlier) more) c.loop-field.invariant.0 c.in-Some.ensures.next refl (sym c.is-new.ensures ∙ c.in-err-is-new.was))
+    let more = to_give c.next_parameter.new.self in
+    broken c.from_residual.result c.from_residual.ensures.1
+    ∙ sym (walk_off (each_new earlier) (each_new [] ps) (to_give c.loop-field.given) f more (needs (not (has (units f) earlier)) (entry GroupAxisDuplicated f.column)) (each_new (units f ∷ earlier) more) c.loop-field.invariant.0 c.in-Some.ensures.next refl (sym c.is_new.ensures ∙ c.in_err-is_new.was))
 
 pub loop-field-preserved : goal.loop-field-preserved
 loop-field-preserved c =
@@ -25,8 +25,8 @@ loop-field-preserved c =
     let i = c.loop-field.i in
     let earlier = map units (take i ps) in
     let f = seen c.in-Some.field in
-    let more = to_give c.next-parameter.new.self in
-    let on = walk_on (each_new earlier) (each_new [] ps) (to_give c.loop-field.given) f more (needs (not (has (units f) earlier)) (entry GroupAxisDuplicated f.column)) (each_new (units f ∷ earlier) more) c.loop-field.invariant.0 c.in-Some.ensures.next refl (sym c.is-new.ensures ∙ c.in-ok-is-new.was) in
+    let more = to_give c.next_parameter.new.self in
+    let on = walk_on (each_new earlier) (each_new [] ps) (to_give c.loop-field.given) f more (needs (not (has (units f) earlier)) (entry GroupAxisDuplicated f.column)) (each_new (units f ∷ earlier) more) c.loop-field.invariant.0 c.in-Some.ensures.next refl (sym c.is_new.ensures ∙ c.in_ok-is_new.was) in
     let next : i + 1 ≡ suc i = omega arith in
     let front = front_more ps i f more (sym c.loop-field.invariant.1 ∙ c.in-Some.ensures.next) in
     let seen_now : map units (take (i + 1) ps) ≡ earlier ++ units f ∷ [] = ap (λ n. map units (take n ps)) next ∙ (ap (map units) front.0 ∙ map-append units (take i ps) (f ∷ [])) in

@@ -12,31 +12,31 @@ use Rattle.shape.proofs.Chains.{walk_on, walk_off, broken}
 use Rattle.checks.proofs.Repeats.{first_axis}
 use Rattle.checks.proofs.forming.each_resting.Goals as goal
 
-pub is-resting-requires : goal.is-resting-requires
-is-resting-requires g c =
+pub is_resting-requires : goal.is_resting-requires
+is_resting-requires g c =
     let k = core_of c.args.desk.now [] in
     let f = seen c.in-Some.field in
-    let more = to_give c.next-parameter.new.self in
+    let more = to_give c.next_parameter.new.self in
     let first = first_axis k f more (sym (ap (λ fs. judged (each_axis k fs)) c.in-Some.ensures.next) ∙ c.loop-field.invariant.1) in
     let few = twelve_axes c.args.desk.now in
     omega (arith, first.0)
 
-pub returns-in-err-is-resting : goal.returns-in-err-is-resting
-returns-in-err-is-resting g c =
+pub returns-in_err-is_resting : goal.returns-in_err-is_resting
+returns-in_err-is_resting g c =
     let axes = g.D.Drive.axes c.args.drive.now in
     let k = core_of c.args.desk.now [] in
     let f = seen c.in-Some.field in
-    let more = to_give c.next-parameter.new.self in
+    let more = to_give c.next_parameter.new.self in
     let t : Field → Test = λ h. needs (at_rest (row_or no_drive_axis (units h) axes)) (entry (ChangeNotAllowed (units h)) c.args.command.now.column) in
-    broken c.from-residual.result c.from-residual.ensures.1
-    ∙ sym (walk_off (map t) (map t (said c.args.command.now).parameters) (to_give c.loop-field.given) f more (t f) (map t more) c.loop-field.invariant.0 c.in-Some.ensures.next refl (sym c.is-resting.ensures ∙ c.in-err-is-resting.was))
+    broken c.from_residual.result c.from_residual.ensures.1
+    ∙ sym (walk_off (map t) (map t (said c.args.command.now).parameters) (to_give c.loop-field.given) f more (t f) (map t more) c.loop-field.invariant.0 c.in-Some.ensures.next refl (sym c.is_resting.ensures ∙ c.in_err-is_resting.was))
 
 pub loop-field-preserved : goal.loop-field-preserved
 loop-field-preserved g c =
     let axes = g.D.Drive.axes c.args.drive.now in
     let k = core_of c.args.desk.now [] in
     let f = seen c.in-Some.field in
-    let more = to_give c.next-parameter.new.self in
+    let more = to_give c.next_parameter.new.self in
     let t : Field → Test = λ h. needs (at_rest (row_or no_drive_axis (units h) axes)) (entry (ChangeNotAllowed (units h)) c.args.command.now.column) in
     let first = first_axis k f more (sym (ap (λ fs. judged (each_axis k fs)) c.in-Some.ensures.next) ∙ c.loop-field.invariant.1) in
-    (walk_on (map t) (map t (said c.args.command.now).parameters) (to_give c.loop-field.given) f more (t f) (map t more) c.loop-field.invariant.0 c.in-Some.ensures.next refl (sym c.is-resting.ensures ∙ c.in-ok-is-resting.was), first.1)
+    (walk_on (map t) (map t (said c.args.command.now).parameters) (to_give c.loop-field.given) f more (t f) (map t more) c.loop-field.invariant.0 c.in-Some.ensures.next refl (sym c.is_resting.ensures ∙ c.in_ok-is_resting.was), first.1)

@@ -8,40 +8,40 @@ use Rattle.shape.proofs.Chains.{passes, fails, broken}
 use Rattle.checks.proofs.Sorts.{sort, nobody, small_number}
 use Rattle.checks.proofs.judging.meets.Goals as goal
 
-pub returns-in-err-naming : goal.returns-in-err-naming
-returns-in-err-naming g c =
+pub returns-in_err-naming : goal.returns-in_err-naming
+returns-in_err-naming g c =
     let k = core_of c.args.desk.now (g.D.Drive.axes c.args.drive.now) in
     let m = c.args.m in
     let s = said c.args.command.now in
-    broken c.from-residual.result c.from-residual.ensures.1 ∙ sym (fails (R.naming k m s) _ (sym c.naming.ensures ∙ c.in-err-naming.was))
+    broken c.from_residual.result c.from_residual.ensures.1 ∙ sym (fails (R.naming k m s) _ (sym c.naming.ensures ∙ c.in_err-naming.was))
 
 pub returns-then-asks : goal.returns-then-asks
 returns-then-asks g c =
     let k = core_of c.args.desk.now (g.D.Drive.axes c.args.drive.now) in
     let m = c.args.m in
     let s = said c.args.command.now in
-    let named = sym c.naming.ensures ∙ c.in-ok-naming.was in
+    let named = sym c.naming.ensures ∙ c.in_ok-naming.was in
     let asks = c.if-asks.ensures in
     sym (passes (R.naming k m s) _ named (sym (ap (λ b. judged (R.where_so (not b) (R.doing k m s))) asks)))
 
-pub returns-then-ignores-prefix : goal.returns-then-ignores-prefix
-returns-then-ignores-prefix g c =
+pub returns-then-ignores_prefix : goal.returns-then-ignores_prefix
+returns-then-ignores_prefix g c =
     let k = core_of c.args.desk.now (g.D.Drive.axes c.args.drive.now) in
     let m = c.args.m in
     let s = said c.args.command.now in
-    let named = sym c.naming.ensures ∙ c.in-ok-naming.was in
+    let named = sym c.naming.ensures ∙ c.in_ok-naming.was in
     let asks = c.if-asks.ensures in
-    let alone = nobody k m s (sort m) (sym c.if-ignores-prefix.ensures) in
-    sym (passes (R.naming k m s) _ named (sym (c.doing-without-prefix.ensures ∙ (alone ∙ ap (λ b. judged (R.where_so (not b) (R.doing k m s))) asks))))
+    let alone = nobody k m s (sort m) (sym c.if-ignores_prefix.ensures) in
+    sym (passes (R.naming k m s) _ named (sym (c.doing_without_prefix.ensures ∙ (alone ∙ ap (λ b. judged (R.where_so (not b) (R.doing k m s))) asks))))
 
 pub doing-requires : goal.doing-requires
 doing-requires g c =
     let k = core_of c.args.desk.now (g.D.Drive.axes c.args.drive.now) in
     let m = c.args.m in
     let s = said c.args.command.now in
-    let named = sym c.naming.ensures ∙ c.in-ok-naming.was in
+    let named = sym c.naming.ensures ∙ c.in_ok-naming.was in
     let d = c.args.desk.now in
-    let small = small_number k m s (twelve_axes d) (twelve_groups d) (sort m) (sym c.if-ignores-prefix.ensures) named in
+    let small = small_number k m s (twelve_axes d) (twelve_groups d) (sort m) (sym c.if-ignores_prefix.ensures) named in
     search rules
 
 pub returns : goal.returns
@@ -49,6 +49,6 @@ returns g c =
     let k = core_of c.args.desk.now (g.D.Drive.axes c.args.drive.now) in
     let m = c.args.m in
     let s = said c.args.command.now in
-    let named = sym c.naming.ensures ∙ c.in-ok-naming.was in
+    let named = sym c.naming.ensures ∙ c.in_ok-naming.was in
     let asks = c.if-asks.ensures in
     sym (passes (R.naming k m s) _ named (sym (c.doing.ensures ∙ ap (λ b. judged (R.where_so (not b) (R.doing k m s))) asks)))

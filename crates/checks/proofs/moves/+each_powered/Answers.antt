@@ -8,7 +8,7 @@ use Rattle.shape.specs.Verdicts.{judged}
 use Rattle.checks.proofs.moves.+each_powered.Goals as goal
 
 -- without members there is nothing to test
-pub returns-in-default : goal.returns-in-default
-returns-in-default g t c =
+pub returns-in_default : goal.returns-in_default
+returns-in_default g t c =
     let test : ℕ → Test = λ n. needs (row_or no_drive_axis n (g.D.Drive.axes c.args.drive.now)).powered (entry (MotorNotEnabled n) c.args.column) in
-    sym (ap (λ ms. judged (map test ms)) (nil_from_length c.args.members.now c.in-default.ensures.cases))
+    sym (ap (λ ms. judged (map test ms)) (nil_from_length c.args.members.now c.in_default.ensures.cases))

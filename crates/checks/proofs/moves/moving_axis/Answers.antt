@@ -6,8 +6,8 @@ use Rattle.shape.specs.Verdicts.{judged}
 use Rattle.shape.proofs.Chains.{front_passed}
 use Rattle.checks.proofs.moves.moving_axis.Goals as goal
 
-pub each-resting-requires : goal.each-resting-requires
-each-resting-requires g c =
+pub each_resting-requires : goal.each_resting-requires
+each_resting-requires g c =
     let k = core_of c.args.desk.now [] in
     let s = said c.args.command.now in
     let axes = front_passed (each_axis k s.parameters) _ (subst (λ m. judged (group_axes k m s) ≡ Ok tt) c.in-Hn.is c.requires.axes) in

@@ -11,4 +11,4 @@ pub returns : goal.returns
 returns c =
     let d = c.args.desk.now in
     let row = row_capped free_group (group_named (core_of d []) (said c.args.command.now)) (model_of d).groups (few_groups d) in
-    c.waypoint-count.ensures ∙ (ap (λ n. length (group_at n (model_of d)).waypoints) c.group_named.ensures ∙ ap (λ g. length g.waypoints) row)
+    c.waypoint_count.ensures ∙ (ap (λ n. length (group_at n (model_of d)).waypoints) c.group_named.ensures ∙ ap (λ g. length g.waypoints) row)

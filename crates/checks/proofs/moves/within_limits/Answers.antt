@@ -11,10 +11,10 @@ use Rattle.shape.specs.Verdicts.{judged}
 use Rattle.shape.proofs.Chains.{fails, broken}
 use Rattle.checks.proofs.moves.within_limits.Goals as goal
 
-pub returns-in-err-not-right : goal.returns-in-err-not-right
-returns-in-err-not-right c =
+pub returns-in_err-not_right : goal.returns-in_err-not_right
+returns-in_err-not_right c =
     let right = (row_or no_axis c.args.axis (model_of c.args.desk.now).axes).right in
     let e = entry (PositiveLimitExceeded c.args.axis) c.args.column in
-    let told = sym c.not-right.ensures ∙ c.in-err-not-right.was in
-    let over = subst (λ z. judged (needs (le_z z right) e ∷ []) ≡ Err c.in-err-not-right.field-0.0) (to_z-of_z w128 c.args.z c.ranges.z) told in
-    broken c.from-residual.result c.from-residual.ensures.1 ∙ sym (fails (needs (le_z c.args.z right) e ∷ []) _ over)
+    let told = sym c.not_right.ensures ∙ c.in_err-not_right.was in
+    let over = subst (λ z. judged (needs (le_z z right) e ∷ []) ≡ Err c.in_err-not_right.field-0.0) (to_z-of_z w128 c.args.z c.ranges.z) told in
+    broken c.from_residual.result c.from_residual.ensures.1 ∙ sym (fails (needs (le_z c.args.z right) e ∷ []) _ over)

@@ -14,19 +14,19 @@ loop-command-preserved g c =
     let v = world_of c.execute-at.new.state (g.D.Drive.axes c.execute-at.new.drive) in
     let cs = to_come c.loop-command.all in
     let s = said c.in-Some.command in
-    let more = to_come c.next-command.new.self in
+    let more = to_come c.next_command.new.self in
     let next = c.in-Some.ensures.next in
     let did = c.execute-at.ensures.world in (
       run_on w v cs s more c.loop-command.invariant.0 next did,
       reply_on w v cs s more c.loop-command.out c.loop-command.at c.execute-at.new.out c.execute-at.result c.loop-command.invariant.1 next did c.execute-at.ensures.reply,
-      bound_on w v cs s more _ (room_left c.loop-command.all) (room_left c.next-command.new.self) (40 * (length c.args.line.now + 1)) c.loop-command.invariant.2 next did c.execute-at.ensures.short c.in-Some.ensures.used,
+      bound_on w v cs s more _ (room_left c.loop-command.all) (room_left c.next_command.new.self) (40 * (length c.args.line.now + 1)) c.loop-command.invariant.2 next did c.execute-at.ensures.short c.in-Some.ensures.used,
     )
 
 pub returns : goal.returns
 returns g c =
     let w = world_of c.loop-command.state (g.D.Drive.axes c.loop-command.drive) in
     let start = world_of c.args.state.now (g.D.Drive.axes c.args.drive.now) in
-    let none = c.in-default.ensures.next in
+    let none = c.in_default.ensures.next in
     let written =
     sym (write_nothing c.loop-command.out c.loop-command.at)
     ∙ (sym (ap (λ cs. write c.loop-command.out c.loop-command.at (all_replies (outcomes w cs))) none) ∙ c.loop-command.invariant.1) in

@@ -8,14 +8,14 @@ use Rattle.rules.specs.Refusals.{none_below}
 use Rattle.figures.specs.Maxima.{max_of}
 use Rattle.figures.proofs.ranges.none_below.Goals as goal
 
-pub returns-then-not-is-at-most : goal.returns-then-not-is-at-most
-returns-then-not-is-at-most c =
+pub returns-then-not-is_at_most : goal.returns-then-not-is_at_most
+returns-then-not-is_at_most c =
     let ms = c.args.members.now in
     let i = c.loop-axis.axis-index in
     let f : ℕ → ℕ = λ n. max_of c.args.figure (row_or no_axis n (model_of c.args.desk.now).axes) in
     let z = to_z w64 (of_z w64 c.args.z) in
     let here = at_drop_more (λ xs. none_below z (map f xs)) ms i 0 c.loop-axis-test.true in
-    let over = c.if-not-is-at-most.ensures in
+    let over = c.if-not-is_at_most.ensures in
     let no : false ≡ none_below z (map f ms) = ap (λ b. b && none_below z (map f (drop (i + 1) ms))) over ∙ (sym here ∙ c.loop-axis.invariant) in
     subst (λ y. false ≡ none_below y (map f ms)) (to_z-of_z w64 c.args.z c.ranges.z) no
 
@@ -26,7 +26,7 @@ loop-axis-preserved c =
     let f : ℕ → ℕ = λ n. max_of c.args.figure (row_or no_axis n (model_of c.args.desk.now).axes) in
     let z = to_z w64 (of_z w64 c.args.z) in
     let here = at_drop_more (λ xs. none_below z (map f xs)) ms i 0 c.loop-axis-test.true in
-    ap (λ b. b && none_below z (map f (drop (i + 1) ms))) c.if-not-is-at-most.ensures ∙ (sym here ∙ c.loop-axis.invariant)
+    ap (λ b. b && none_below z (map f (drop (i + 1) ms))) c.if-not-is_at_most.ensures ∙ (sym here ∙ c.loop-axis.invariant)
 
 pub returns : goal.returns
 returns c =

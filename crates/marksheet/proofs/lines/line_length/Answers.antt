@@ -4,8 +4,8 @@ use Rattle.marksheet.specs.Cutting.{ends_line}
 use Rattle.marksheet.proofs.Cuts.{Plain, line_front, behind_front}
 use Rattle.marksheet.proofs.lines.line_length.Goals as goal
 
-pub returns-then-ends-line : goal.returns-then-ends-line
-returns-then-ends-line c =
+pub returns-then-ends_line : goal.returns-then-ends_line
+returns-then-ends_line c =
     let text = c.args.text.now in
     let k = c.loop-k.k in
     let within : k ≤ length text = omega arith in

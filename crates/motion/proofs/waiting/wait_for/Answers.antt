@@ -8,4 +8,4 @@ pub returns : goal.returns
 returns g c =
     let k = core_of c.args.desk.now (g.D.Drive.axes c.args.drive.now) in
     let done = reached c.args.goal in
-    c.wait.ensures ∙ ap (λ n. (wait n (done k) done k).core) c.longest-wait.ensures
+    c.wait.ensures ∙ ap (λ n. (wait n (done k) done k).core) c.longest_wait.ensures

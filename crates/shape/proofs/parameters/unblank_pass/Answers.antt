@@ -7,16 +7,16 @@ use Rattle.shape.specs.Verdicts.{judged}
 use Rattle.shape.proofs.Chains.{walk_on, walk_off, broken}
 use Rattle.shape.proofs.parameters.unblank_pass.Goals as goal
 
-pub returns-in-err-passes-unblank : goal.returns-in-err-passes-unblank
-returns-in-err-passes-unblank c =
+pub returns-in_err-passes_unblank : goal.returns-in_err-passes_unblank
+returns-in_err-passes_unblank c =
     let k = core_of c.args.desk.now [] in
     let m = c.args.m in
     let s = said c.args.command.now in
     let i = c.loop-field.i in
     let f = seen c.in-Some.field in
-    let more = to_give c.next-parameter.new.self in
-    let told = sym c.passes-unblank.ensures ∙ c.in-err-passes-unblank.was in
-    broken c.from-residual.result c.from-residual.ensures.1
+    let more = to_give c.next_parameter.new.self in
+    let told = sym c.passes_unblank.ensures ∙ c.in_err-passes_unblank.was in
+    broken c.from_residual.result c.from_residual.ensures.1
     ∙ sym (walk_off (R.unblank_pass k m s i) (R.unblank_pass k m s 0 s.parameters) (to_give c.loop-field.given) f more (R.needs (R.blank_field f || not (R.offends k m s i f)) (R.entry ParameterOutOfRange f.column)) (R.unblank_pass k m s (suc i) more) c.loop-field.invariant.0 c.in-Some.ensures.next refl told)
 
 pub loop-field-preserved : goal.loop-field-preserved
@@ -26,8 +26,8 @@ loop-field-preserved c =
     let s = said c.args.command.now in
     let i = c.loop-field.i in
     let f = seen c.in-Some.field in
-    let more = to_give c.next-parameter.new.self in
-    let told = sym c.passes-unblank.ensures ∙ c.in-ok-passes-unblank.was in
+    let more = to_give c.next_parameter.new.self in
+    let told = sym c.passes_unblank.ensures ∙ c.in_ok-passes_unblank.was in
     let on = walk_on (R.unblank_pass k m s i) (R.unblank_pass k m s 0 s.parameters) (to_give c.loop-field.given) f more (R.needs (R.blank_field f || not (R.offends k m s i f)) (R.entry ParameterOutOfRange f.column)) (R.unblank_pass k m s (suc i) more) c.loop-field.invariant.0 c.in-Some.ensures.next refl told in
     let fewer = c.in-Some.ensures.less in
     let short = c.loop-field.invariant.1 in

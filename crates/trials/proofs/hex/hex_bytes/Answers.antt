@@ -5,12 +5,12 @@ use Rattle.trials.proofs.hex.hex_bytes.Goals as goal
 pub loop-k-preserved : goal.loop-k-preserved
 loop-k-preserved c =
     let k = c.loop-k.k in
-    let high = c.in-ok-high.high in
-    let low = c.in-ok-low.low in
+    let high = c.in_ok-high.high in
+    let low = c.in_ok-low.low in
     let ok : is_ok c.push.result ≡ true = search rules in
     let size : vec_len c.loop-k.bytes ≡ k = c.loop-k.invariant.0 in
-    let high-told = c.in-ok-high.ensures in
-    let low_told = c.in-ok-low.ensures in
+    let high-told = c.in_ok-high.ensures in
+    let low_told = c.in_ok-low.ensures in
     let pushed = c.push.ensures.by_index.1 0 ok in
     let quotient : (16 * high + low) / 16 ≡ high = omega (arith, low_told.1) in
     let remainder : (16 * high + low) % 16 ≡ low = omega (arith, low_told.1) in (
