@@ -112,10 +112,10 @@ fn replies(rt: HostRuntime) {
     let end = write_list(&mut out, 2, &items);
     let end = write_line_end(&mut out, end);
     assert_eq!(rt; end, 13);
-    assert_eq!(rt; &out[0..16], b"__-1,2.0000\r\n___");
+    assert_eq!(rt; &out[0..16], b"__-1,2.0000\r\n___".as_slice());
     let mut small = [b'_'; 4];
     assert_eq!(rt; write_setting(&mut small, 1, 1_250_000), 4);
-    assert_eq!(rt; &small[0..4], b"_1.2");
+    assert_eq!(rt; &small[0..4], b"_1.2".as_slice());
     assert_eq!(rt; write_setting(&mut small, 9, 1_250_000), 9);
 }
 
@@ -149,7 +149,7 @@ fn lines(rt: HostRuntime) -> Result<(), Fail> {
     assert_eq!(rt; count_known(b"        "), 0);
     let line = first_line(b"1TP\r\n2TP\r").ok_or("no line")?;
     assert_eq!(rt; line.taken, 4);
-    assert_eq!(rt; line.bytes, b"1TP");
+    assert_eq!(rt; line.bytes, b"1TP".as_slice());
     assert!(rt; first_line(b"1TP\n").is_none());
     Ok(())
 }
