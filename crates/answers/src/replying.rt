@@ -8,6 +8,8 @@ ghost use Rattle.rules.specs.Kinds.{among, error_commands};
 ghost use Rattle.rules.specs.Refusals.{has_prefix};
 ghost use Rattle.rules.specs.Replies.{reply_of, code_text, message_text};
 ghost use Rattle.rules.specs.Steps.{replies};
+ghost use Rattle.desk.specs.Desks.{model_of};
+ghost use Rattle.answers.specs.Facts.{FewMembers};
 ghost use Rattle.answers.specs.Parts.{error_reply, answering, answer_reply};
 
 use crate::answer::write_answer;
@@ -76,7 +78,7 @@ fn reply_answer<D: Drive>(
     at: usize,
 ) -> usize
     ensures text { (result, out.new) ≡ write out.old at (answer_reply (core_of desk.now (D.Drive.axes drive.now)) m (said command.now)) }
-    ensures short { length (answer_reply (core_of desk.now (D.Drive.axes drive.now)) m (said command.now)) ≤ (if among error_commands m then 0 else (if has_prefix (said command.now) then 158 else 52)) }
+    ensures short { FewMembers (model_of desk.now) → length (answer_reply (core_of desk.now (D.Drive.axes drive.now)) m (said command.now)) ≤ (if among error_commands m then 0 else (if has_prefix (said command.now) then 158 else 52)) }
 {
     if !answers(m, command) {
         return at;
@@ -95,7 +97,7 @@ pub fn reply<D: Drive>(
     at: usize,
 ) -> usize
     ensures text { (result, out.new) ≡ write out.old at (replies (world_of state.now (D.Drive.axes drive.now)) m (said command.now)) }
-    ensures short { length (replies (world_of state.now (D.Drive.axes drive.now)) m (said command.now)) ≤ (if has_prefix (said command.now) then 158 else 52) }
+    ensures short { FewMembers (model_of state.now.desk) → length (replies (world_of state.now (D.Drive.axes drive.now)) m (said command.now)) ≤ (if has_prefix (said command.now) then 158 else 52) }
 {
     let error = reply_error(&state.errors, m, out, at);
     reply_answer(&state.desk, drive, m, command, out, error)

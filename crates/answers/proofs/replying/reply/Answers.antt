@@ -10,5 +10,5 @@ returns g c =
     let command = said c.args.command.now in
     record {
       text = replied w m command c.args.out.now c.args.at c.reply_error-error.ensures.text c.reply_answer.ensures.text;
-      short = reply_short w m command c.reply_error-error.ensures.short c.reply_answer.ensures.short;
+      short = λ few. reply_short w m command c.reply_error-error.ensures.short (c.reply_answer.ensures.short few);
     }
