@@ -3,10 +3,12 @@ ghost use Rattle.std.specs.Prelude.{◌≡◌, ◌≤◌, true, length, None};
 ghost use Rattle.number.specs.Writing.{write};
 ghost use Rattle.command.specs.Views.{said, countable};
 ghost use Rattle.queue.specs.Errors.{entries};
+ghost use Rattle.desk.specs.Desks.{model_of};
 ghost use Rattle.rules.specs.World.{core_of, world_of};
 ghost use Rattle.rules.specs.Kinds.{among, error_commands};
 ghost use Rattle.rules.specs.Refusals.{refused_by};
 ghost use Rattle.rules.specs.Steps.{accepted, step, reply_bytes, errors_after};
+ghost use Rattle.answers.specs.Facts.{FewMembers};
 ghost use Rattle.engine.specs.Bounds.{most_reply};
 
 use crate::nothing::nothing_written;
@@ -41,7 +43,7 @@ fn accept<D: Drive>(
     requires passed { refused_by (core_of state.old.desk (D.Drive.axes drive.old)) (said command.now) ≡ None }
     ensures world { world_of state.new (D.Drive.axes drive.new) ≡ (accepted (world_of state.old (D.Drive.axes drive.old)) (said command.now).mnemonic (said command.now)).world }
     ensures reply { (result, out.new) ≡ write out.old at (reply_bytes (accepted (world_of state.old (D.Drive.axes drive.old)) (said command.now).mnemonic (said command.now)).outcome) }
-    ensures short { length (reply_bytes (accepted (world_of state.old (D.Drive.axes drive.old)) (said command.now).mnemonic (said command.now)).outcome) ≤ most_reply (said command.now) }
+    ensures short { FewMembers (model_of state.old.desk) → length (reply_bytes (accepted (world_of state.old (D.Drive.axes drive.old)) (said command.now).mnemonic (said command.now)).outcome) ≤ most_reply (said command.now) }
 {
     let Some(m) = command.mnemonic else {
         return at;
@@ -64,7 +66,7 @@ pub fn execute<D: Drive>(
     requires { countable command.now ≡ true }
     ensures world { world_of state.new (D.Drive.axes drive.new) ≡ (step (world_of state.old (D.Drive.axes drive.old)) (said command.now)).world }
     ensures reply { (result, out.new) ≡ write out.old at (reply_bytes (step (world_of state.old (D.Drive.axes drive.old)) (said command.now)).outcome) }
-    ensures short { length (reply_bytes (step (world_of state.old (D.Drive.axes drive.old)) (said command.now)).outcome) ≤ most_reply (said command.now) }
+    ensures short { FewMembers (model_of state.old.desk) → length (reply_bytes (step (world_of state.old (D.Drive.axes drive.old)) (said command.now)).outcome) ≤ most_reply (said command.now) }
 {
     match judge(&state.desk, drive, command) {
         Ok(()) => accept(state, drive, command, out, at),
