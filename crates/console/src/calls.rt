@@ -1,8 +1,9 @@
-ghost use Rattle.std.specs.Prelude.{◌≡◌, cond, [], Ok, Err};
+ghost use Rattle.std.specs.Prelude.{◌≡◌, ◌≤◌, [], length, Ok, Err, IfOk};
 ghost use Rattle.number.specs.Writing.{write};
 ghost use Rattle.rules.specs.Steps.{all_replies};
-ghost use Rattle.rules.specs.Calls.{line_call, ticks_call, error_call, line_world, line_outcomes, too_long};
-ghost use Rattle.console.specs.Answers.{world, plain_answer, line_answer, entry_answer};
+ghost use Rattle.rules.specs.Calls.{line_call, ticks_call, error_call, line_world, line_outcomes, too_long, line_taken};
+ghost use Rattle.console.specs.Answers.{world, plain_answer, line_answer, entry_answer, replies_taken};
+ghost use Rattle.engine.specs.Bounds.{Whole};
 
 use crate::console::Console;
 use crate::line_done::LineDone;
@@ -27,6 +28,7 @@ impl Console {
     fn run<D: Drive>(&mut self, drive: &mut D, line: &[u8], reply: &mut [u8]) -> usize
         ensures world { world self.new (D.Drive.axes drive.new) ≡ line_world (world self.old (D.Drive.axes drive.old)) line.now (too_long line.now) }
         ensures reply { (result, reply.new) ≡ write reply.old 0 (all_replies (line_outcomes (world self.old (D.Drive.axes drive.old)) line.now (too_long line.now))) }
+        ensures whole { 4096 ≤ length reply.old → Whole (all_replies (line_outcomes (world self.old (D.Drive.axes drive.old)) line.now (too_long line.now))) result reply.new }
     {
         if line.len() > LONGEST {
             nothing_written(reply, 0);
@@ -39,7 +41,7 @@ impl Console {
         run_line(&mut self.state, drive, line, reply)
     }
 
-    /// Runs the line that ends at the first CR. The replies stand from the buffer's first byte, and the bytes behind them are kept.
+    /// Runs the line that ends at the first CR. The replies stand whole from the buffer's first byte, and the bytes behind them are kept.
     pub fn line<D: Drive>(
         &mut self,
         drive: &mut D,
@@ -47,6 +49,7 @@ impl Console {
         reply: &mut [u8],
     ) -> Result<LineDone, Refusal>
         ensures runs { (line_answer result, (world self.new (D.Drive.axes drive.new), reply.new)) ≡ line_call (world self.old (D.Drive.axes drive.old)) line.now reply.old }
+        ensures whole { IfOk result (λ d. Whole (replies_taken (world self.old (D.Drive.axes drive.old)) (line_taken (world self.old (D.Drive.axes drive.old)) line.now (length reply.old))) d.written reply.new) }
         ensures kept { elim result [ Ok d ↦ Unit {0} | Err e ↦ (self.new ≡ self.old) × ((drive.new ≡ drive.old) × (reply.new ≡ reply.old)) ] }
     {
         if !matches(&self.state.desk, drive) {
