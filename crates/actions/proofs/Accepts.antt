@@ -1,5 +1,5 @@
 -- What the tests of an accepted command say. Assumes nothing.
-use Rattle.std.proofs.Common.{◌≡◌, ℕ, ◌+◌, true, false, not, T, List, [], ◌∷◌, ◌++◌, Some, None, subst, arith}
+use Rattle.std.proofs.Common.{◌≡◌, ℕ, true, false, not, T, List, [], ◌∷◌, ◌++◌, Some, None, subst, arith}
 use Rattle.command.specs.declared.mnemonic.Mnemonic.{Mnemonic}
 use Rattle.command.specs.Commands.{Command}
 use Rattle.rules.specs.World.{Core}

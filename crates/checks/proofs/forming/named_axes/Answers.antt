@@ -1,7 +1,7 @@
 use Rattle.std.proofs.Common.{[], sym, ◌∙◌}
 use Rattle.command.specs.Views.{said}
 use Rattle.rules.specs.World.{core_of}
-use Rattle.rules.specs.Refusals.{each_axis, each_new, each_free}
+use Rattle.rules.specs.Refusals.{each_axis, each_new}
 use Rattle.shape.proofs.Chains.{passes, fails, broken}
 use Rattle.checks.proofs.forming.named_axes.Goals as goal
 

@@ -1,4 +1,4 @@
-use Rattle.std.proofs.Common.{[], sym, ◌∙◌}
+use Rattle.std.proofs.Common.{sym, ◌∙◌}
 use Rattle.command.specs.Views.{said}
 use Rattle.rules.specs.World.{core_of}
 use Rattle.rules.specs.Refusals as R

@@ -1,4 +1,4 @@
-use Rattle.std.proofs.Common.{◌≡◌, true, false, not, [], sym, ap, ◌∙◌, rules}
+use Rattle.std.proofs.Common.{not, sym, ap, ◌∙◌, rules}
 use Rattle.command.specs.Views.{said}
 use Rattle.rules.specs.World.{core_of}
 use Rattle.rules.specs.Refusals as R
