@@ -1,10 +1,8 @@
 -- Rows of tables that are numbered from 1.
-use Rattle.std.proofs.Common.{◌≡◌, ℕ, zero, suc, ◌/◌, ◌<◌, ◌≤◌, min, Bool, true, false, cond, ◌||◌, List, [], ◌∷◌, length, get_or, take, pos, is_some, Some, None, Option, sym, refl, ap, ◌∙◌, ⊎_elim, arith}
+use Rattle.std.proofs.Common.{◌≡◌, ℕ, zero, suc, ◌/◌, ◌<◌, ◌≤◌, min, true, false, cond, ◌||◌, List, [], ◌∷◌, length, get_or, take, is_some, Some, None, Option, sym, refl, ap, ◌∙◌, ⊎_elim, arith}
 use Rattle.std.proofs.lemmas.List.{get_or_past, length-take, length-map}
 use Rattle.std.proofs.lemmas.Bool.{cases_lt}
-use Rattle.std.proofs.lemmas.Option.{slice_get-get_or, slice_get_past}
 use Rattle.std.specs.Result.{result_unwrap_or}
-use Rattle.std.specs.List.{slice_get}
 use Rattle.drive.specs.Model.{Axis, ask, ask_axis}
 use Rattle.groups.specs.Groups.{GroupModel, group_model, has}
 use Rattle.desk.specs.Tables.{row, row_or}
