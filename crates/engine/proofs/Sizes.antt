@@ -1,20 +1,19 @@
 -- No command and no beat gives a group more members than there are axes.
-use Rattle.std.proofs.Common.{◌≡◌, ℕ, zero, suc, ◌≤◌, Bool, true, false, cond, not, ◌&&◌, ◌||◌, List, [], ◌∷◌, ◌++◌, map, length, ℤ, Some, None, Option, sym, refl, ap, subst, inl, inr, eqb, ltb, leb, T, arith}
+use Rattle.std.proofs.Common.{◌≡◌, ℕ, zero, suc, ◌≤◌, Bool, true, false, not, ◌&&◌, ◌||◌, List, [], ◌∷◌, ◌++◌, map, length, ℤ, Some, None, Option, sym, refl, ap, subst, inl, inr, eqb, ltb, leb, arith}
 use Rattle.command.specs.declared.mnemonic.Mnemonic.{Mnemonic}
 use Rattle.command.specs.declared.mnemonic.Mnemonic.TheVariants.{Va, Ac, Ag, Sl, Sr, Fp, Mo, Mf, Pa, Pr, St, Dh, Ws, Id, Tp, Dp, Md, Hn, Hx, Hv, Ha, Hd, Ho, Hf, Hl, Hp, Hw, Ab, Wt, Tb, Te}
 use Rattle.command.specs.Commands.{Command}
-use Rattle.drive.specs.Calls.{tick, stop, power_off}
-use Rattle.groups.specs.Groups.{GroupModel, free_group, with_profile, with_waypoints}
-use Rattle.groups.specs.Profiles.{velocity_in, acceleration_in, deceleration_in}
+use Rattle.drive.specs.Calls.{tick}
+use Rattle.groups.specs.Groups.{GroupModel, free_group, with_waypoints}
 use Rattle.desk.specs.declared.axis_settings.AxisSettings.{AxisSettings}
 use Rattle.desk.specs.Tables.{there, alter}
-use Rattle.desk.specs.Axes.{with_own, with_left, with_right, with_digits, smallest_own}
-use Rattle.desk.specs.Desks.{DeskModel, on_axis, at_group, on_group, in_use, can_join, formed, dissolved, digits_set, group_at}
-use Rattle.rules.specs.World.{Core, World, members, group, axis_count, group_count, numbers, with_desk}
+use Rattle.desk.specs.Axes.{with_digits, smallest_own}
+use Rattle.desk.specs.Desks.{DeskModel, on_axis, at_group, on_group, in_use, can_join, group_at}
+use Rattle.rules.specs.World.{Core, World, members, group, group_count, numbers}
 use Rattle.rules.specs.Refusals.{names_all, axis_named, group_named, given, values, units, whole_value, tests_of, tests, each_axis, each_new, asking}
-use Rattle.rules.specs.Deeds.{tell, all_rest, all_powered, waits, still, group_still, send, set_off, go_on, advance, advance_all, beat, beats, wait, all_emptied, does, unless_asking, performed}
-use Rattle.rules.specs.Steps.{step, settled, accepted, run_commands}
-use Rattle.laws.proofs.Basics.{alter_keeps, alter_length, alter_gives, map_keeps, picked, picked_when, Passed, passed_l, passed_r, judged, all_pass_has, and_l, there_low, there_high}
+use Rattle.rules.specs.Deeds.{tell, all_rest, all_powered, waits, still, group_still, send, set_off, go_on, advance, advance_all, beat, beats, wait, does, unless_asking, performed}
+use Rattle.rules.specs.Steps.{step, settled, accepted}
+use Rattle.laws.proofs.Basics.{alter_keeps, alter_length, map_keeps, picked, Passed, passed_l, passed_r, judged, all_pass_has, there_low, there_high}
 use Rattle.laws.proofs.Passing.{Passing, passing}
 use Rattle.laws.proofs.Counts.{pigeons, names_there, names_apart}
 use Rattle.answers.specs.Facts.{FewMembers}

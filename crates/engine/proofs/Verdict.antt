@@ -1,5 +1,5 @@
 -- What a verdict says of the refusal.
-use Rattle.std.proofs.Common.{◌≡◌, Some, None, Ok, Err, Option, sym, refl, arith}
+use Rattle.std.proofs.Common.{◌≡◌, Some, None, Ok, Err, Option, refl, arith}
 use Rattle.queue.specs.declared.error_entry.ErrorEntry.{ErrorEntry}
 use Rattle.shape.specs.Verdicts.{verdict}
 

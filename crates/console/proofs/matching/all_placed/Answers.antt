@@ -1,4 +1,4 @@
-use Rattle.std.proofs.Common.{◌≡◌, ◌+◌, min, ◌&&◌, length, drop, sym, ap, ◌∙◌, arith}
+use Rattle.std.proofs.Common.{◌+◌, ◌&&◌, drop, sym, ap, ◌∙◌, arith}
 use Rattle.desk.specs.Desks.{model_of}
 use Rattle.rules.specs.Calls.{placed}
 use Rattle.console.proofs.Pairs.{placed_more, placed_all}
