@@ -13,7 +13,7 @@ word_and_rest (w ∷ words) b bs first = (map (λ v. v.now) words, ap (λ (x : L
 pub returns-in_ok-drive-in-drive : goal.returns-in_ok-drive-in-drive
 returns-in_ok-drive-in-drive c =
     elim c.in-drive-1.branch [
-      then-words-lt2+in-drive-1 w ↦ word_and_rest c.args.words.now _ _ (search rules)
+      | then-words-lt2+in-drive-1 w ↦ word_and_rest c.args.words.now _ _ (search rules)
       | else-words-lt2+then-words-lt3+in-drive-1 w ↦ word_and_rest c.args.words.now _ _ (search rules)
       | else-words-lt2+else-words-lt3+then-words-lt4+in-drive-1 w ↦ word_and_rest c.args.words.now _ _ (search rules)
       | else-words-lt2+else-words-lt3+else-words-lt4+in-drive-1 w ↦ word_and_rest c.args.words.now _ _ (search rules)
