@@ -23,7 +23,8 @@ use rig::{Rig, rig_of};
 use session::Session;
 use setup::{Setup, decode};
 use sheet::{show_end, show_setup};
-use std::env;
+use std::process::ExitCode;
+use std::{env, io};
 use trouble::Trouble;
 use usage::USAGE;
 
@@ -68,10 +69,10 @@ fn run(rt: &HostRuntime) -> Result<(), Trouble> {
     Ok(())
 }
 
-fn main(rt: HostRuntime) -> Result<(), Trouble> {
-    let result = run(&rt);
-    if let Err(trouble) = &result {
+fn main(rt: HostRuntime) -> io::Result<ExitCode> {
+    if let Err(trouble) = run(&rt) {
         eprintln!(rt; "marksheet: {trouble}")?;
+        return Ok(ExitCode::FAILURE);
     }
-    result
+    Ok(ExitCode::SUCCESS)
 }

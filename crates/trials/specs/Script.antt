@@ -1,10 +1,6 @@
 -- What the words of a script's line say. Assumes nothing.
-use Rattle.std.specs.Prelude.{◌≡◌, ℕ, ◌⊎◌, List, [], ◌∷◌, length, replicate, vec_items, codes}
+use Rattle.std.specs.Prelude.{◌≡◌, ℕ, List, [], ◌∷◌, length, vec_items, codes}
 use Rattle.std.specs.Str.Parse.{digits_value, without_leading_plus}
-use Rattle.stage.specs.Stages.{fresh_axis, nearest}
-use Rattle.stage.specs.Travel.{Travel, instant_travel, stepping_travel}
-use Rattle.bank.specs.Banks.{bank_axes}
-use Rattle.bank.specs.declared.bank.Bank.{Bank}
 use Rattle.trials.specs.Hex.{Spells}
 use Rattle.trials.specs.declared.script.Directive.{Directive}
 use Rattle.trials.specs.declared.script.Directive.TheVariants.{Case, Drive, Reversed, Record, Open, Line, Ticks, Error}

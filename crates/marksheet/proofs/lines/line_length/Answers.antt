@@ -1,5 +1,5 @@
 -- The bytes that were passed end no line, and the one that the loop stops at does.
-use Rattle.std.proofs.Common.{◌≡◌, ◌<◌, ◌≤◌, true, length, get_or, arith, rules}
+use Rattle.std.proofs.Common.{◌≡◌, ◌≤◌, true, length, get_or, arith, rules}
 use Rattle.marksheet.specs.Cutting.{ends_line}
 use Rattle.marksheet.proofs.Cuts.{Plain, line_front, behind_front}
 use Rattle.marksheet.proofs.lines.line_length.Goals as goal

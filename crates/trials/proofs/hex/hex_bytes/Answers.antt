@@ -1,5 +1,5 @@
 -- The bytes so far are kept by a push, and the new one is 16 times its higher digit and its lower digit.
-use Rattle.std.proofs.Common.{◌≡◌, ◌+◌, ◌*◌, ◌/◌, ◌%◌, ◌<◌, true, get_or, is_ok, vec_items, vec_len, arith, rules, below_more}
+use Rattle.std.proofs.Common.{◌≡◌, ◌+◌, ◌*◌, ◌/◌, ◌%◌, ◌<◌, true, is_ok, vec_len, arith, rules, below_more}
 use Rattle.trials.proofs.hex.hex_bytes.Goals as goal
 
 pub loop-k-preserved : goal.loop-k-preserved
