@@ -20,6 +20,10 @@ view_sound m s n xs least most h =
     let l = view_length m n xs h in
     record { least = rw l least; most = rw l most; each = all_sound m s (take n xs) }
 
+-- of a table of 12 rows
+pub table_sound : {X : Type 0} (m : X → Axis) → ((x : X) → SoundAxis (m x)) → (n : ℕ) (xs : List X) → 2 ≤ n → n ≤ 12 → length xs ≡ 12 → Sound (map m (take n xs))
+table_sound m s n xs least most room = view_sound m s n xs least most (omega arith)
+
 -- ---- no such axis
 
 ask_past : {R : Type 0} (f : Axis → R) (i : ℕ) (xs : List Axis) → length xs ≤ i → ask f i xs ≡ Err NoSuchAxis

@@ -3,7 +3,7 @@ ghost use Rattle.bank.specs.Banks.{bank_axes};
 ghost use Rattle.std.proofs.Common.{arith};
 ghost use Rattle.stage.specs.Kinds.{kind_axis};
 ghost use Rattle.stage.specs.Sounds.{kind_sound};
-ghost use Rattle.bank.specs.Arrays.{view_sound};
+ghost use Rattle.bank.specs.Arrays.{table_sound};
 
 use crate::bank::Bank;
 use drive::{Drive, DriveRefusal, Profile};
@@ -58,7 +58,7 @@ macro_rules! changed {
 impl Drive for Bank {
     ghost axes = { bank_axes };
 
-    ghost sound = { λ d. view_sound kind_axis kind_sound d.count d.axes d.least d.most (omega arith) };
+    ghost sound = { λ d. table_sound kind_axis kind_sound d.count d.axes d.least d.most d.room };
 
     fn axis_count(&self) -> usize {
         self.count
