@@ -1,10 +1,9 @@
 -- A group that is there.
-use Rattle.std.proofs.Common.{◌≡◌, ℕ, ◌-◌, ◌/◌, ◌≤◌, true, false, map, length, get_or, take, set, sym, refl, ap, ◌∙◌, arith}
+use Rattle.std.proofs.Common.{◌≡◌, ℕ, ◌-◌, ◌/◌, ◌≤◌, map, length, get_or, take, ap, ◌∙◌, arith}
 use Rattle.std.proofs.lemmas.List.{length-map, length-take-le, map-set}
 use Rattle.std.proofs.lemmas.Bool.Decides.{nat_tests}
 use Rattle.desk.specs.declared.desk_state.Desk.{Desk}
 use Rattle.groups.specs.declared.group.Group.{Group}
-use Rattle.desk.specs.Tables.{there}
 use Rattle.groups.specs.Groups.{group_model, free_group}
 use Rattle.desk.specs.Desks.{model_of, group_at}
 use Rattle.desk.specs.Found.{Found}

@@ -1,7 +1,6 @@
 -- The desk: the settings of the axes and the groups, and what its operations do. Assumes nothing.
 use Rattle.std.specs.Prelude.{ℕ, suc, ◌/◌, Bool, true, false, cond, not, ◌&&◌, List, [], ◌∷◌, ◌++◌, map, length, take, drop, replicate, ℤ, Some, None, Option, ◌==◌, nat_le, nat_lt}
 use Rattle.std.specs.List.{list_all, slice_get}
-use Rattle.drive.specs.declared.profile.Profile.{Profile}
 use Rattle.setup.specs.declared.record.SetupRecord.{SetupRecord}
 use Rattle.desk.specs.declared.axis_settings.AxisSettings.{AxisSettings}
 use Rattle.desk.specs.declared.desk_state.Desk.{Desk}

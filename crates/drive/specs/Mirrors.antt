@@ -1,5 +1,5 @@
 -- What a mirrored axis keeps of a drive's laws, and how questions and changes go through it.
-use Rattle.std.specs.Prelude.{◌≡◌, ℕ, zero, suc, ◌^◌, ◌<◌, ◌≤◌, Bool, true, false, cond, ◌⊎◌, List, [], ◌∷◌, length, ℤ, pos, negsuc, neg_ℤ, ◌≤ℤ◌, ◌<ℤ◌, Ok, Err, Result, ◌==◌, ◌≢◌, unsigned_abs, refl}
+use Rattle.std.specs.Prelude.{◌≡◌, ℕ, zero, suc, ◌^◌, ◌<◌, ◌≤◌, ◌⊎◌, List, [], ◌∷◌, length, ℤ, pos, negsuc, neg_ℤ, Ok, Err, Result, ◌==◌, ◌≢◌, unsigned_abs, refl}
 use Rattle.std.proofs.Common.{sym, ◌∙◌, ap, inl, inr, ⊎_elim, arith}
 use Rattle.std.proofs.Math.IntN.{neg_ℤ-neg_ℤ}
 use Rattle.std.specs.Int.Signed.{mag}
@@ -10,7 +10,7 @@ use Rattle.std.proofs.lemmas.Bool.Decides.{nat_tests}
 use Rattle.std.specs.Int.{saturate_to_bits}
 use Rattle.drive.specs.declared.profile.Profile.{Profile}
 use Rattle.drive.specs.declared.refusal.DriveRefusal.{DriveRefusal}
-use Rattle.drive.specs.Model.{Axis, Fair, SoundAxis, Sound, Change, ask, ask_axis, at, at_axis, same, start_axis, stop_axis, power_on_axis, power_off_axis, set_position_axis, tick_axis, tick_axes}
+use Rattle.drive.specs.Model.{Axis, Fair, SoundAxis, Sound, Change, ask, ask_axis, at, at_axis, same, start_axis, set_position_axis, tick_axis, tick_axes}
 use Rattle.drive.specs.Mirror.{mirror, mirror_at, mirrored, facing, facing_answer}
 
 -- ---- numbers

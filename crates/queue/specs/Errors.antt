@@ -1,5 +1,5 @@
 -- The errors that wait, the oldest first. Assumes nothing.
-use Rattle.std.specs.Prelude.{ℕ, zero, suc, ◌-◌, cond, List, Some, None, Option, ◌==◌}
+use Rattle.std.specs.Prelude.{ℕ, ◌-◌, cond, List, None, Option, ◌==◌}
 use Rattle.std.specs.List.{slice_get}
 use Rattle.queue.specs.declared.error_entry.ErrorEntry.{ErrorEntry}
 use Rattle.queue.specs.declared.error_queue.ErrorQueue.{ErrorQueue}

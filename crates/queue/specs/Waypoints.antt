@@ -1,5 +1,5 @@
 -- The waypoints that wait, the first to be started first; each is a list of positions. Assumes nothing.
-use Rattle.std.specs.Prelude.{ℕ, cond, List, map, length, take, ℤ, Some, None, Option, nat_le}
+use Rattle.std.specs.Prelude.{cond, List, map, length, take, ℤ, Some, None, Option, nat_le}
 use Rattle.queue.specs.declared.waypoint.Waypoint.{Waypoint}
 use Rattle.queue.specs.declared.route.Route.{Route}
 use Rattle.queue.specs.Queue.{waiting}

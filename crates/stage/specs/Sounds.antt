@@ -1,6 +1,6 @@
 -- Each kind of axis is sound.
 use Rattle.std.proofs.Common.{arith}
-use Rattle.std.specs.Prelude.{◌/◌, ℤ, nat_abs}
+use Rattle.std.specs.Prelude.{◌/◌, ℤ}
 use Rattle.std.proofs.lemmas.Int.{ints}
 use Rattle.drive.specs.declared.profile.Profile.{Profile}
 use Rattle.drive.specs.Model.{Fair, SoundAxis}

@@ -1,9 +1,7 @@
-use Rattle.std.proofs.Common.{◌≡◌, leb, map, length, take, set, sym, refl, ap, ◌∙◌, arith, rules}
-use Rattle.std.proofs.lemmas.List.{length-set, length-take-le, take_all}
-use Rattle.std.proofs.lemmas.Bool.Decides.{nat_tests}
+use Rattle.std.proofs.Common.{◌≡◌, map, length, take, sym, refl, ap, ◌∙◌, arith}
+use Rattle.std.proofs.lemmas.List.{take_all}
 use Rattle.setup.specs.Setups.{records_in}
-use Rattle.desk.specs.Axes.{opened_axis, short}
-use Rattle.desk.proofs.Changes.{all_pass_set}
+use Rattle.desk.specs.Axes.{opened_axis}
 use Rattle.desk.proofs.Joining.{table_turn, record_none}
 use Rattle.desk.proofs.opening.axis_table.Goals as goal
 use Rattle.desk.proofs.opening.axis_table.Goals.{in-Some, in_default}

@@ -1,4 +1,4 @@
-use Rattle.std.proofs.Common.{eqb, arith, rules}
+use Rattle.std.proofs.Common.{eqb, arith}
 use Rattle.std.proofs.lemmas.Bool.Decides.{nat_tests}
 use Rattle.setup.proofs.Fronts.{all_pass_more, all_pass_all}
 use Rattle.setup.proofs.name.zeros_from.Goals as goal

@@ -1,4 +1,4 @@
-use Rattle.std.proofs.Common.{◌≡◌, length, refl, arith, w32, SFits, of_z, rules}
+use Rattle.std.proofs.Common.{◌≡◌, length, arith, w32, SFits, of_z, rules}
 use Rattle.std.proofs.lemmas.List.{length-append}
 use Rattle.std.proofs.lemmas.Int.{to_z-of_z}
 use Rattle.setup.proofs.Writes.{parts_written}

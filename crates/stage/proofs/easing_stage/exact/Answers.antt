@@ -1,4 +1,3 @@
-use Rattle.std.proofs.Common.{◌≡◌, w32}
 use Rattle.std.proofs.lemmas.Int.{to_z-of_z}
 use Rattle.stage.proofs.Floats.{there_and_back}
 use Rattle.stage.proofs.easing_stage.exact.Goals as goal

@@ -1,6 +1,5 @@
 use Rattle.std.proofs.Common.{replicate, ap, ◌∙◌, arith}
 use Rattle.stage.specs.Kinds.{kind_axis}
-use Rattle.stage.specs.Stages.{nearest}
 use Rattle.bank.specs.Arrays.{view_equal}
 use Rattle.bank.proofs.bank.Bank.of.Goals as goal
 

@@ -1,4 +1,4 @@
-use Rattle.std.proofs.Common.{◌≡◌, ◌+◌, map, drop, sym, refl, ap, ◌∙◌, arith, rules}
+use Rattle.std.proofs.Common.{◌+◌, map, drop, sym, ap, ◌∙◌, arith}
 use Rattle.groups.specs.Profiles.{lesser, least}
 use Rattle.desk.specs.Axes.{own_of}
 use Rattle.desk.specs.Desks.{model_of}

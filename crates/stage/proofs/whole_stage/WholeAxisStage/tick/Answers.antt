@@ -1,4 +1,4 @@
-use Rattle.std.proofs.Common.{sym, ◌∙◌, w32, SFits, rules}
+use Rattle.std.proofs.Common.{w32, SFits, rules}
 use Rattle.std.proofs.lemmas.Int.{to_z-of_z}
 use Rattle.drive.proofs.Numbers.{fair_within, fair_rests}
 use Rattle.stage.proofs.whole_stage.WholeAxisStage.tick.Goals as goal
