@@ -7,7 +7,7 @@ use Rattle.number.specs.Decimals.{read_decimal, signed_of, magnitude_of}
 use Rattle.command.specs.declared.mnemonic.Mnemonic.{Mnemonic}
 use Rattle.command.specs.declared.mnemonic.Mnemonic.TheVariants.{Va, Ac, Ag, Sl, Sr, Fp, Mo, Mf, Pa, Pr, St, Dh, Ws, Id, Tp, Dp, Md, Hn, Hx, Hv, Ha, Hd, Ho, Hf, Hl, Hp, Hw, Ab, Wt, Tb, Te}
 use Rattle.command.specs.Commands.{Field, Command, capped}
-use Rattle.std.specs.List.{AllByRecursion as All}
+use Rattle.std.specs.List.{AllByRecursion}
 use Rattle.drive.specs.Model.{Axis, SoundAxis, Sound}
 use Rattle.groups.specs.declared.group.Group.{Group}
 use Rattle.groups.specs.Groups.{group_model, free_group}
@@ -233,7 +233,7 @@ members_few [] i = omega arith
 members_few (g ∷ gs) zero = let l = length-take g.members.size g.members.axes in let f = g.members.few in omega arith
 members_few (g ∷ gs) (suc i) = members_few gs i
 
-reach_few : (axes : List Axis) (i : ℕ) → All SoundAxis axes → (get_or axes i no_drive_axis).reach ≤ 2000000000
+reach_few : (axes : List Axis) (i : ℕ) → AllByRecursion SoundAxis axes → (get_or axes i no_drive_axis).reach ≤ 2000000000
 reach_few [] i h = omega arith
 reach_few (a ∷ axes) zero h = h.0.most_reach
 reach_few (a ∷ axes) (suc i) h = reach_few axes i h.1

@@ -1,6 +1,6 @@
 -- Positions and targets of any axis are told in few bytes.
 use Rattle.std.proofs.Common.{◌≡◌, ℕ, zero, suc, ◌*◌, ◌≤◌, true, List, [], ◌∷◌, map, length, get_or, take, ℤ, nat_abs, arith}
-use Rattle.std.specs.List.{AllByRecursion as All}
+use Rattle.std.specs.List.{AllByRecursion}
 use Rattle.std.proofs.lemmas.Bool.{leb-true, and_parts}
 use Rattle.number.specs.Texts.{list_text}
 use Rattle.number.proofs.Lengths.{position_short}
@@ -26,12 +26,12 @@ digits_few d zero = omega arith
 digits_few d (suc i) = digits_at d.count i d.axes d.digits
 
 module _ (f : Axis → ℤ) (within : (a : Axis) → SoundAxis a → nat_abs (f a) ≤ 2000000000) (none : nat_abs (f no_drive_axis) ≤ 2000000000) where
-  at_index : (i : ℕ) (axes : List Axis) → All SoundAxis axes → nat_abs (f (get_or axes i no_drive_axis)) ≤ 2000000000
+  at_index : (i : ℕ) (axes : List Axis) → AllByRecursion SoundAxis axes → nat_abs (f (get_or axes i no_drive_axis)) ≤ 2000000000
   at_index i [] s = none
   at_index zero (a ∷ axes) s = within a s.0
   at_index (suc i) (a ∷ axes) s = at_index i axes s.1
 
-  at_row : (n : ℕ) (axes : List Axis) → All SoundAxis axes → nat_abs (f (row_or no_drive_axis n axes)) ≤ 2000000000
+  at_row : (n : ℕ) (axes : List Axis) → AllByRecursion SoundAxis axes → nat_abs (f (row_or no_drive_axis n axes)) ≤ 2000000000
   at_row zero axes s = none
   at_row (suc i) axes s = at_index i axes s
 

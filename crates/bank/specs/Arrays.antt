@@ -1,7 +1,7 @@
 -- What is asked and done, in a bank's array and in the list of axes that the bank means.
 use Rattle.std.specs.Prelude.{◌≡◌, ℕ, zero, suc, ◌+◌, ◌<◌, ◌≤◌, ◌⊎◌, List, [], ◌∷◌, ◌++◌, map, length, get_or, take, drop, set, replicate, Ok, Err, Result, slice_index_or, slice_set, refl}
 use Rattle.std.proofs.Common.{sym, ◌∙◌, ap, inl, inr, arith, add-one}
-use Rattle.std.specs.List.{AllByRecursion as All}
+use Rattle.std.specs.List.{AllByRecursion}
 use Rattle.std.proofs.lemmas.List.{length-map, length-take-le, get_or-take, get_or-map, take_all, drop_all, append-nil}
 use Rattle.std.proofs.lemmas.List.Edits.{map_over_more}
 use Rattle.drive.specs.declared.refusal.DriveRefusal.{DriveRefusal}
@@ -11,7 +11,7 @@ use Rattle.drive.specs.Model.{Axis, SoundAxis, Sound, Change, ask, ask_axis, at,
 pub view_length : {X : Type 0} (m : X → Axis) (n : ℕ) (xs : List X) → n ≤ length xs → length (map m (take n xs)) ≡ n
 view_length m n xs h = rw (length-map, length-take-le)
 
-all_sound : {X : Type 0} (m : X → Axis) → ((x : X) → SoundAxis (m x)) → (xs : List X) → All SoundAxis (map m xs)
+all_sound : {X : Type 0} (m : X → Axis) → ((x : X) → SoundAxis (m x)) → (xs : List X) → AllByRecursion SoundAxis (map m xs)
 all_sound m s [] = tt
 all_sound m s (x ∷ xs) = (s x, all_sound m s xs)
 

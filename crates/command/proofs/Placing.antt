@@ -1,6 +1,6 @@
 -- Where commands and their fields stand in the line.
 use Rattle.std.proofs.Common.{◌≡◌, ℕ, suc, ◌+◌, ◌-◌, ◌<◌, ◌≤◌, min, Bool, true, false, cond, ◌||◌, eqb, ltb, List, [], ◌∷◌, ◌++◌, map, length, get_or, take, drop, Some, None, sym, refl, ap, ◌∙◌, ⊎_elim, one-add, arith}
-use Rattle.std.specs.List.{prefix_len, suffix_len, AllByRecursion as All}
+use Rattle.std.specs.List.{prefix_len, suffix_len, AllByRecursion}
 use Rattle.std.proofs.lemmas.List.{take_rest, take-take, drop-take, drop-drop, length-take, length-drop, take_all, get_or-take, get_or-drop}
 use Rattle.std.proofs.lemmas.List.Sums.{prefix_len-le-length}
 use Rattle.std.proofs.lemmas.Bool.{cond_both, eqb-false, ltb-false, cases_lt}
@@ -60,15 +60,15 @@ module _ (line : List ℕ) where
   in_past p n le h = stands_part line p.0 _ p.1 _ n (length p.1 - n) h (omega arith) refl (sym (take_rest p.1 n))
 
   -- every part between separators
-  in_later : (s c : ℕ) (xs : List ℕ) → Stands line c xs → All In (later s c xs)
+  in_later : (s c : ℕ) (xs : List ℕ) → Stands line c xs → AllByRecursion In (later s c xs)
   in_later s c [] h = tt
   in_later s c (x ∷ xs) h =
       let next : Stands line (c + 1) xs = stands_part line c (c + 1) (x ∷ xs) xs 1 (length xs) h (omega arith) refl (sym (take_all (length xs) xs (omega arith))) in
       let more = in_later s (c + 1) xs next in
       let first = stands_part line (c + 1) (c + 1) xs (up_to s xs) 0 (prefix_len (apart s) xs) next (omega (arith, prefix_len-le-length (apart s) xs)) (omega arith) (up_to_is s xs) in
-      cond_both (apart s x) (later s (c + 1) xs) ((c + 1, up_to s xs) ∷ later s (c + 1) xs) (All In) (λ e. more) (λ e. (first, more))
+      cond_both (apart s x) (later s (c + 1) xs) ((c + 1, up_to s xs) ∷ later s (c + 1) xs) (AllByRecursion In) (λ e. more) (λ e. (first, more))
 
-  in_parts : (s : ℕ) (p : Part) → In p → All In (parts s p.0 p.1)
+  in_parts : (s : ℕ) (p : Part) → In p → AllByRecursion In (parts s p.0 p.1)
   in_parts s p h = (
     stands_part line p.0 p.0 p.1 (up_to s p.1) 0 (prefix_len (apart s) p.1) h (omega (arith, prefix_len-le-length (apart s) p.1)) (omega arith) (up_to_is s p.1),
     in_later s p.0 p.1 h,
@@ -77,39 +77,39 @@ module _ (line : List ℕ) where
   abbrev FieldIn : Field → Type 0
   FieldIn f = Stands line f.column f.bytes
 
-  all_append : (xs ys : List Field) → All FieldIn xs → All FieldIn ys → All FieldIn (xs ++ ys)
+  all_append : (xs ys : List Field) → AllByRecursion FieldIn xs → AllByRecursion FieldIn ys → AllByRecursion FieldIn (xs ++ ys)
   all_append [] ys h g = g
   all_append (x ∷ xs) ys h g = (h.0, all_append xs ys h.1 g)
 
-  in_prefix : (p : Part) → In p → All FieldIn (listed (prefix_of p))
+  in_prefix : (p : Part) → In p → AllByRecursion FieldIn (listed (prefix_of p))
   in_prefix p h =
-      cond_both (eqb (digits_before p.1) 0) None (Some (field is_prefix (p.0, take (digits_before p.1) p.1))) (λ o. All FieldIn (listed o)) (λ e. tt)
+      cond_both (eqb (digits_before p.1) 0) None (Some (field is_prefix (p.0, take (digits_before p.1) p.1))) (λ o. AllByRecursion FieldIn (listed o)) (λ e. tt)
       (λ e. (in_front_of p (digits_before p.1) (prefix_len-le-length digit p.1) h, tt))
 
-  in_letters : (p : Part) → In p → All FieldIn (listed (letters_of p))
+  in_letters : (p : Part) → In p → AllByRecursion FieldIn (listed (letters_of p))
   in_letters p h =
-      cond_both (ltb (length p.1) 2) None (Some (field is_mnemonic (p.0, take 2 p.1))) (λ o. All FieldIn (listed o)) (λ e. tt)
+      cond_both (ltb (length p.1) 2) None (Some (field is_mnemonic (p.0, take 2 p.1))) (λ o. AllByRecursion FieldIn (listed o)) (λ e. tt)
       (λ e. (in_front_of p 2 (ltb-false (length p.1) 2 e) h, tt))
 
-  in_question : (p : Part) → In p → All FieldIn (listed (question_of p))
-  in_question p h = cond_both (asks p.1) (Some (field is_question p)) None (λ o. All FieldIn (listed o)) (λ e. (h, tt)) (λ e. tt)
+  in_question : (p : Part) → In p → AllByRecursion FieldIn (listed (question_of p))
+  in_question p h = cond_both (asks p.1) (Some (field is_question p)) None (λ o. AllByRecursion FieldIn (listed o)) (λ e. (h, tt)) (λ e. tt)
 
-  in_given : (ps : List Part) → All In ps → All FieldIn (map (λ q. field is_parameter (bare q)) ps)
+  in_given : (ps : List Part) → AllByRecursion In ps → AllByRecursion FieldIn (map (λ q. field is_parameter (bare q)) ps)
   in_given [] h = tt
   in_given (p ∷ ps) h = (in_bare p h.0, in_given ps h.1)
 
-  in_parameters : (p : Part) → In p → All FieldIn (parameters_of p)
+  in_parameters : (p : Part) → In p → AllByRecursion FieldIn (parameters_of p)
   unfolding parameters_from
   in_parameters p h =
-      cond_both (eqb (length p.1) 0 || asks p.1) [] (parameters_from p) (All FieldIn) (λ e. tt)
+      cond_both (eqb (length p.1) 0 || asks p.1) [] (parameters_from p) (AllByRecursion FieldIn) (λ e. tt)
       (λ e. in_given (parts 44 p.0 p.1) (in_parts 44 p h))
 
   -- a rest that is nothing has no fields
-  in_nothing : (p : Part) → length p.1 ≡ 0 → All FieldIn (listed (question_of p) ++ parameters_of p)
+  in_nothing : (p : Part) → length p.1 ≡ 0 → AllByRecursion FieldIn (listed (question_of p) ++ parameters_of p)
   in_nothing (c, []) e = tt
   in_nothing (c, x ∷ xs) e = absurd (omega arith)
 
-  in_rest : (p : Part) → In p → All FieldIn (listed (question_of (bare (past 2 p))) ++ parameters_of (bare (past 2 p)))
+  in_rest : (p : Part) → In p → AllByRecursion FieldIn (listed (question_of (bare (past 2 p))) ++ parameters_of (bare (past 2 p)))
   in_rest p h =
       ⊎_elim
       (λ (short : length p.1 < 2). in_nothing (bare (past 2 p)) (simp (length-take, length-drop) (omega arith)))
@@ -117,7 +117,7 @@ module _ (line : List ℕ) where
       all_append (listed (question_of (bare (past 2 p)))) (parameters_of (bare (past 2 p))) (in_question _ rest) (in_parameters _ rest))
       (cases_lt (length p.1) 2)
 
-  in_fields : (p : Part) → In p → All FieldIn (fields_of (command_of p))
+  in_fields : (p : Part) → In p → AllByRecursion FieldIn (fields_of (command_of p))
   unfolding command_of
   in_fields p h =
       let body : In (body_of p) = in_bare _ (in_past p (digits_before p.1) (prefix_len-le-length digit p.1) h) in
@@ -142,12 +142,12 @@ module _ (line : List ℕ) where
         fields = in_fields t stands;
       }
 
-  all_placed : (ps : List Part) → All In ps → All (λ c. Placed line c) (all_commands ps)
+  all_placed : (ps : List Part) → AllByRecursion In ps → AllByRecursion (λ c. Placed line c) (all_commands ps)
   unfolding in_front
   all_placed [] h = tt
   all_placed (p ∷ ps) h =
       let more = all_placed ps h.1 in
-      cond_both (eqb (length (trimmed p.1)) 0) (all_commands ps) (command_of (bare p) ∷ all_commands ps) (All (λ c. Placed line c)) (λ e. more) (λ e. (placed p h.0 e, more))
+      cond_both (eqb (length (trimmed p.1)) 0) (all_commands ps) (command_of (bare p) ∷ all_commands ps) (AllByRecursion (λ c. Placed line c)) (λ e. more) (λ e. (placed p h.0 e, more))
 
 pub commands_placed : (line : List ℕ) → CommandsPlaced line
 unfolding commands_from

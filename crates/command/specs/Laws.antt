@@ -1,6 +1,6 @@
 -- Where commands and their fields stand in the line.
 use Rattle.std.specs.Prelude.{◌≡◌, ℕ, ◌+◌, ◌-◌, ◌≤◌, false, List, [], ◌∷◌, ◌++◌, length, take, drop, Some, None, Option, slice_index}
-use Rattle.std.specs.List.{AllByRecursion as All}
+use Rattle.std.specs.List.{AllByRecursion}
 use Rattle.command.specs.Lines.{blank}
 use Rattle.command.specs.Commands.{Field, Command, commands_of}
 
@@ -24,8 +24,8 @@ pub record Placed (line : List ℕ) (c : Command) : Type 0 where
   pub from : 1 ≤ c.column
   pub within : c.column ≤ length line
   pub begins : blank (slice_index line (c.column - 1)) ≡ false
-  pub fields : All (λ f. Stands line f.column f.bytes) (fields_of c)
+  pub fields : AllByRecursion (λ f. Stands line f.column f.bytes) (fields_of c)
 
 -- every command of the line is placed
 abbrev pub CommandsPlaced : List ℕ → Type 0
-CommandsPlaced line = All (λ c. Placed line c) (commands_of line)
+CommandsPlaced line = AllByRecursion (λ c. Placed line c) (commands_of line)

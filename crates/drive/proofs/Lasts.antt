@@ -1,6 +1,6 @@
 -- The laws of a drive hold whatever it is told, and no reach and no rule of travel changes.
 use Rattle.std.proofs.Common.{◌≡◌, ℕ, zero, suc, ◌≤◌, Bool, true, false, cond, leb, List, [], ◌∷◌, map, length, ℤ, nat_abs, Result, sym, refl, ap, ◌∙◌}
-use Rattle.std.specs.List.{AllByRecursion as All}
+use Rattle.std.specs.List.{AllByRecursion}
 use Rattle.std.proofs.lemmas.Bool.{leb-true, true≢false}
 use Rattle.std.proofs.lemmas.List.{length-map}
 use Rattle.drive.specs.declared.profile.Profile.{Profile}
@@ -60,7 +60,7 @@ tick_sound a s =
 
 -- a change of one axis keeps the laws of all, and their number
 module _ (f : Change) (keeps : KeepsSound f) where
-  at_each : (i : ℕ) (xs : List Axis) → All SoundAxis xs → All SoundAxis (at f i xs).1
+  at_each : (i : ℕ) (xs : List Axis) → AllByRecursion SoundAxis xs → AllByRecursion SoundAxis (at f i xs).1
   at_each i [] s = s
   at_each zero (a ∷ xs) s = (keeps a s.0, s.1)
   at_each (suc i) (a ∷ xs) s = (s.0, at_each i xs s.1)
@@ -74,7 +74,7 @@ pub change_sound : (f : Change) → KeepsSound f → (n : ℕ) (xs : List Axis) 
 change_sound f keeps zero xs s = s
 change_sound f keeps (suc i) xs s = record { least = rw at_count s.least; most = rw at_count s.most; each = at_each f keeps i xs s.each }
 
-ticks_each : (xs : List Axis) → All SoundAxis xs → All SoundAxis (tick_axes xs)
+ticks_each : (xs : List Axis) → AllByRecursion SoundAxis xs → AllByRecursion SoundAxis (tick_axes xs)
 ticks_each [] s = s
 ticks_each (a ∷ xs) s = (tick_sound a s.0, ticks_each xs s.1)
 

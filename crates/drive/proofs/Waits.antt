@@ -1,6 +1,6 @@
 -- Ticks until an axis rests: every drive arrives.
 use Rattle.std.proofs.Common.{◌≡◌, ℕ, zero, suc, ◌+◌, ◌-◌, ◌<◌, ◌≤◌, Bool, true, false, List, [], ◌∷◌, ◌-ℤ◌, nat_abs, Ok, Err, Result, sym, refl, ap, ◌∙◌, add-one, arith}
-use Rattle.std.specs.List.{AllByRecursion as All}
+use Rattle.std.specs.List.{AllByRecursion}
 use Rattle.drive.specs.declared.refusal.DriveRefusal.{DriveRefusal}
 use Rattle.drive.specs.Model.{Axis, SoundAxis, Sound, ask, ask_axis, at_rest, tick_axes}
 use Rattle.drive.specs.Settle.{rests, same_answers, settling, settled, way_left, Arrives}
@@ -21,7 +21,7 @@ told_both (suc i) xs = asks_both i xs
 -- ---- arriving
 
 -- a tick brings an axis that moves nearer
-nearer_at : (i : ℕ) (xs : List Axis) (left : ℕ) → All SoundAxis xs → ask (λ a. nat_abs (a.target -ℤ a.position)) i xs ≡ Ok left → ask at_rest i xs ≡ Ok false →
+nearer_at : (i : ℕ) (xs : List Axis) (left : ℕ) → AllByRecursion SoundAxis xs → ask (λ a. nat_abs (a.target -ℤ a.position)) i xs ≡ Ok left → ask at_rest i xs ≡ Ok false →
     (less : ℕ) × ((ask (λ a. nat_abs (a.target -ℤ a.position)) i (tick_axes xs) ≡ Ok less) × (less < left))
 nearer_at i [] left s w m = let z : ◌≡◌ {A = ℕ} 0 1 = cc in absurd (omega arith)
 nearer_at zero (a ∷ xs) left s w m =

@@ -3,7 +3,7 @@ use Rattle.std.specs.Prelude.{◌≡◌, ℕ, zero, suc, ◌^◌, ◌<◌, ◌�
 use Rattle.std.proofs.Common.{sym, ◌∙◌, ap, inl, inr, ⊎_elim, arith}
 use Rattle.std.proofs.Math.IntN.{neg_ℤ-neg_ℤ}
 use Rattle.std.specs.Int.Signed.{mag}
-use Rattle.std.specs.List.{AllByRecursion as All}
+use Rattle.std.specs.List.{AllByRecursion}
 use Rattle.std.proofs.lemmas.Int.{ints}
 use Rattle.std.proofs.lemmas.Bool.{cases_lt, cases_eq, cond-true, cond-false, eq-eqb, ne_eqb}
 use Rattle.std.proofs.lemmas.Bool.Decides.{nat_tests}
@@ -51,7 +51,7 @@ mirror_sound a s =
       fair = λ p t q hp ht. fair_neg p (a.travel (neg_ℤ p) (neg_ℤ t) q) t (s.fair (neg_ℤ p) (neg_ℤ t) q (rw nat_abs_neg hp) (rw nat_abs_neg ht));
     }
 
-mirror_at_sound : (i : ℕ) (xs : List Axis) → All SoundAxis xs → All SoundAxis (mirror_at i xs)
+mirror_at_sound : (i : ℕ) (xs : List Axis) → AllByRecursion SoundAxis xs → AllByRecursion SoundAxis (mirror_at i xs)
 mirror_at_sound i [] s = s
 mirror_at_sound zero (a ∷ xs) s = (mirror_sound a s.0, s.1)
 mirror_at_sound (suc i) (a ∷ xs) s = (s.0, mirror_at_sound i xs s.1)
@@ -94,7 +94,7 @@ module _ {R : Type 0} (f : Axis → R) (kept : (a : Axis) → f (mirror a) ≡ f
 
 -- a position that is told lies within every reach
 module _ (f : Axis → ℤ) (within : (a : Axis) → SoundAxis a → unsigned_abs (f a) ≤ 2000000000) where
-  ask_small : (i : ℕ) (xs : List Axis) (p : ℤ) → All SoundAxis xs → ask f i xs ≡ Ok p → unsigned_abs p ≤ 2000000000
+  ask_small : (i : ℕ) (xs : List Axis) (p : ℤ) → AllByRecursion SoundAxis xs → ask f i xs ≡ Ok p → unsigned_abs p ≤ 2000000000
   ask_small i [] p s e = let z : ◌≡◌ {A = ℕ} 0 1 = cc in absurd (omega arith)
   ask_small zero (a ∷ xs) p s e = let k : f a ≡ p = cc in rw (sym k) (within a s.0)
   ask_small (suc i) (a ∷ xs) p s e = ask_small i xs p s.1 e
@@ -179,7 +179,7 @@ opposite (negsuc n) h = ⊎_elim (λ l. inl (ap pos (omega arith))) (λ l. inr (
 
 -- a change that names a position: the axis below is told the opposite one
 module _ (f : ℤ → Change) (commutes : (t u : ℤ) (a : Axis) → Opposite t u → SoundAxis a → f t (mirror a) ≡ turned_axis (f u a)) where
-  at_same : (t u : ℤ) (i : ℕ) (xs : List Axis) → Opposite t u → All SoundAxis xs → at (f t) i (mirror_at i xs) ≡ turned_all (suc i) (at (f u) i xs)
+  at_same : (t u : ℤ) (i : ℕ) (xs : List Axis) → Opposite t u → AllByRecursion SoundAxis xs → at (f t) i (mirror_at i xs) ≡ turned_all (suc i) (at (f u) i xs)
   at_same t u i [] o s = refl
   at_same t u zero (a ∷ xs) o s = ap (λ r. (r.0, r.1 ∷ xs)) (commutes t u a o s.0)
   at_same t u (suc i) (a ∷ xs) o s = ap (λ r. (r.0, a ∷ r.1)) (at_same t u i xs o s.1)

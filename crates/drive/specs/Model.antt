@@ -1,6 +1,6 @@
 -- What a drive means: a list of axes, numbered from 1, and what each of the drive's functions answers and changes. Assumes nothing.
 use Rattle.std.specs.Prelude.{◌≡◌, ℕ, zero, suc, ◌≤◌, Bool, true, false, cond, ◌&&◌, List, [], ◌∷◌, map, length, ℤ, ◌≤ℤ◌, ◌<ℤ◌, Ok, Err, Result, int_le, nat_le, unsigned_abs}
-use Rattle.std.specs.List.{AllByRecursion as All}
+use Rattle.std.specs.List.{AllByRecursion}
 use Rattle.drive.specs.declared.profile.Profile.{Profile}
 use Rattle.drive.specs.declared.refusal.DriveRefusal.{DriveRefusal}
 use Rattle.drive.specs.declared.refusal.DriveRefusal.TheVariants.{NoSuchAxis, PowerOff, Moving, OutOfReach}
@@ -36,7 +36,7 @@ pub record SoundAxis (a : Axis) : Type 0 where
 pub record Sound (axes : List Axis) : Type 0 where
   pub least : 2 ≤ length axes
   pub most : length axes ≤ 12
-  pub each : All SoundAxis axes
+  pub each : AllByRecursion SoundAxis axes
 
 -- ---- questions
 

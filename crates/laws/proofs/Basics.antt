@@ -1,7 +1,7 @@
 -- On tables that are changed at one row, on tests, and on what a drive is told.
 use Rattle.std.proofs.Common.{◌≡◌, ℕ, zero, suc, ◌<◌, ◌≤◌, Bool, true, false, cond, not, ◌&&◌, ◌||◌, T, eqb, leb, ◌⊎◌, List, [], ◌∷◌, ◌++◌, map, length, get_or, Some, None, sym, refl, ap, ◌∙◌, subst, inl, inr, le_of_suc-le-suc, not-suc-le-zero, arith, eqb→eq, leb→le}
 use lib.Dec.{eqb_refl}
-use Rattle.std.specs.List.{AllByRecursion as All, list_all}
+use Rattle.std.specs.List.{AllByRecursion, list_all}
 use Rattle.drive.specs.Model.{Axis, Change, at, at_axis, start_axis, stop_axis, power_on_axis, power_off_axis, set_position_axis, tick_axis}
 use Rattle.drive.specs.Calls.{Told, power_on, power_off, start, stop, set_position, tick, done, replay}
 use Rattle.queue.specs.declared.error_entry.ErrorEntry.{ErrorEntry}
@@ -126,15 +126,15 @@ all_pass_has f [] n h e = absurd e
 all_pass_has f (m ∷ ns) n h e = has_case n m ns (λ q. subst (λ k. T (f k)) q (and_l (f m) (list_all f ns) h)) (all_pass_has f ns n (and_r (f m) (list_all f ns) h)) e
 
 module _ {X : Type 0} where
-  pub all_weaker : (P Q : X → Type 0) → ((x : X) → P x → Q x) → (xs : List X) → All P xs → All Q xs
+  pub all_weaker : (P Q : X → Type 0) → ((x : X) → P x → Q x) → (xs : List X) → AllByRecursion P xs → AllByRecursion Q xs
   all_weaker P Q f [] h = tt
   all_weaker P Q f (x ∷ xs) h = (f x h.0, all_weaker P Q f xs h.1)
 
-  pub all_append : (P : X → Type 0) (xs ys : List X) → All P xs → All P ys → All P (xs ++ ys)
+  pub all_append : (P : X → Type 0) (xs ys : List X) → AllByRecursion P xs → AllByRecursion P ys → AllByRecursion P (xs ++ ys)
   all_append P [] ys h k = k
   all_append P (x ∷ xs) ys h k = (h.0, all_append P xs ys h.1 k)
 
-  pub all_map : {Y : Type 0} (P : Y → Type 0) (f : X → Y) → ((x : X) → P (f x)) → (xs : List X) → All P (map f xs)
+  pub all_map : {Y : Type 0} (P : Y → Type 0) (f : X → Y) → ((x : X) → P (f x)) → (xs : List X) → AllByRecursion P (map f xs)
   all_map P f h [] = tt
   all_map P f h (x ∷ xs) = (h x, all_map P f h xs)
 
@@ -199,7 +199,7 @@ done_keeps P (stop n) xs each here = at_keeps P stop_axis n xs each (here n refl
 done_keeps P (set_position n p) xs each here = at_keeps P (set_position_axis p) n xs each (here n refl)
 done_keeps P tick xs each here = map_keeps P tick_axis xs no_drive_axis each (λ k. here k tt)
 
-pub replay_keeps : (P : ℕ → Axis → Type 0) (ts : List Told) (xs : List Axis) → All (λ t. (k : ℕ) (a : Axis) → Touches t k → P k a → P k (effect t a)) ts → ((k : ℕ) → P k (row_or no_drive_axis k xs)) → (k : ℕ) → P k (row_or no_drive_axis k (replay ts xs))
+pub replay_keeps : (P : ℕ → Axis → Type 0) (ts : List Told) (xs : List Axis) → AllByRecursion (λ t. (k : ℕ) (a : Axis) → Touches t k → P k a → P k (effect t a)) ts → ((k : ℕ) → P k (row_or no_drive_axis k xs)) → (k : ℕ) → P k (row_or no_drive_axis k (replay ts xs))
 replay_keeps P [] xs h each = each
 replay_keeps P (t ∷ ts) xs h each = replay_keeps P ts (done t xs) h.1 (done_keeps P t xs each (λ k e. h.0 k (row_or no_drive_axis k xs) e (each k)))
 

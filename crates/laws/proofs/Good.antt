@@ -2,7 +2,7 @@
 use Rattle.std.proofs.Common.{◌≡◌, ℕ, ◌≤◌, T, leb, List, [], ◌∷◌, length, drop, ℤ, pos, neg_ℤ, nat_abs, ◌≤ℤ◌, sym, refl, ◌∙◌, subst, arith}
 use lib.Signed.{le_z}
 use Rattle.std.proofs.lemmas.Int.{ints}
-use Rattle.std.specs.List.{AllByRecursion as All}
+use Rattle.std.specs.List.{AllByRecursion}
 use Rattle.drive.specs.declared.profile.Profile.{Profile}
 use Rattle.drive.specs.Model.{Axis, Fair, start_axis, stop_axis, power_on_axis, power_off_axis, set_position_axis, tick_axis, at_rest}
 use Rattle.drive.specs.Calls.{Told, power_on, power_off, start, stop, set_position, tick, replay}
@@ -48,7 +48,7 @@ pub record GoodGroup (s : ℕ → AxisSettings) (count : ℕ) (g : GroupModel) :
   pub there_low : (n : ℕ) → T (has n g.members) → 1 ≤ n
   pub there_high : (n : ℕ) → T (has n g.members) → n ≤ count
   pub figures : (n : ℕ) → T (has n g.members) → AtMost g.profile (most (s n))
-  pub waiting : All (Fit s g.members) g.waypoints
+  pub waiting : AllByRecursion (Fit s g.members) g.waypoints
   pub idle : g.members ≡ [] → g.waypoints ≡ []
 
 pub record Good (k : Core) : Type 0 where
@@ -112,7 +112,7 @@ good_told s (stop n) w k a e h = good_stop (s k) a h
 good_told s (set_position n z) w k a e h = good_set (s k) a z (subst (λ m. Inside (s m) z) e w) h
 good_told s tick w k a e h = good_tick (s k) a h
 
-pub tell_good : (k : Core) (ts : List Told) → Good k → All (Allowed (settings k)) ts → Good (with_drive (replay ts k.drive) k)
+pub tell_good : (k : Core) (ts : List Told) → Good k → AllByRecursion (Allowed (settings k)) ts → Good (with_drive (replay ts k.drive) k)
 tell_good k ts g h =
     record {
       lengths = g.lengths ∙ sym (replay_count ts k.drive);
@@ -165,7 +165,7 @@ pub on_group_good : (k : Core) (f : GroupModel → GroupModel) (n : ℕ) → Goo
 on_group_good k f n g here = picked_when (in_use n k.desk) (λ d. Good (with_desk d k)) _ _ (λ u. group_good k f n g (here u)) g
 
 -- with other waypoints that fit
-pub waypoints_good : (k : Core) (f : List (List ℤ) → List (List ℤ)) (n : ℕ) → Good k → All (Fit (settings k) (members k n)) (f (group k n).waypoints) → (members k n ≡ [] → f (group k n).waypoints ≡ []) → GoodGroup (settings k) (length k.desk.axes) (with_waypoints f (group k n))
+pub waypoints_good : (k : Core) (f : List (List ℤ) → List (List ℤ)) (n : ℕ) → Good k → AllByRecursion (Fit (settings k) (members k n)) (f (group k n).waypoints) → (members k n ≡ [] → f (group k n).waypoints ≡ []) → GoodGroup (settings k) (length k.desk.axes) (with_waypoints f (group k n))
 waypoints_good k f n g h i = record { there_low = (g.groups n).there_low; there_high = (g.groups n).there_high; figures = (g.groups n).figures; waiting = h; idle = i }
 
 pub free_good : (s : ℕ → AxisSettings) (count : ℕ) → GoodGroup s count free_group
@@ -182,6 +182,6 @@ all_emptied_good k g =
       groups = map_keeps (λ j x. GoodGroup (settings k) (length k.desk.axes) x) (with_waypoints (λ ws. [])) k.desk.groups free_group g.groups (λ j. waypoints_good k (λ ws. []) j g tt (λ e. refl));
     }
 
-pub fit_drop : (s : ℕ → AxisSettings) (ns : List ℕ) (ws : List (List ℤ)) → All (Fit s ns) ws → All (Fit s ns) (drop 1 ws)
+pub fit_drop : (s : ℕ → AxisSettings) (ns : List ℕ) (ws : List (List ℤ)) → AllByRecursion (Fit s ns) ws → AllByRecursion (Fit s ns) (drop 1 ws)
 fit_drop s ns [] h = tt
 fit_drop s ns (w ∷ ws) h = h.1

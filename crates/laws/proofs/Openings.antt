@@ -4,7 +4,7 @@ use lib.Signed.{le_z}
 use Rattle.std.proofs.lemmas.Int.{ints}
 use Rattle.std.proofs.lemmas.List.{get_or_past}
 use Rattle.std.proofs.lemmas.Bool.{cases_lt}
-use Rattle.std.specs.List.{AllByRecursion as All}
+use Rattle.std.specs.List.{AllByRecursion}
 use Rattle.drive.specs.Model.{Axis, SoundAxis, Sound, power_off_axis}
 use Rattle.drive.specs.Calls.{power_off, done, replay}
 use Rattle.drive.proofs.Numbers.{inside_is}
@@ -43,7 +43,7 @@ opened_good_axis r a s l u low high =
     let bu = inside_is r.right a.reach (leb→le _ _ u) in
     record { left_position = le_of low; position_right = le_of high; left_target = le_of low; target_right = le_of high; left_reach = bl.0; right_reach = bu.1; own_most = at_most_refl _; fair = s.fair }
 
-opened_each : (rs : List SetupRecord) (axes : List Axis) → All SoundAxis axes → T (matches (map opened_axis rs) axes) → T (placed (map opened_axis rs) axes) → (i : ℕ) → Halted (get_or (map opened_axis rs) i no_axis) (get_or axes i no_drive_axis)
+opened_each : (rs : List SetupRecord) (axes : List Axis) → AllByRecursion SoundAxis axes → T (matches (map opened_axis rs) axes) → T (placed (map opened_axis rs) axes) → (i : ℕ) → Halted (get_or (map opened_axis rs) i no_axis) (get_or axes i no_drive_axis)
 opened_each [] [] s m p i = none_good
 opened_each [] (a ∷ axes) s m p i = absurd m
 opened_each (r ∷ rs) [] s m p i = absurd m
@@ -53,7 +53,7 @@ opened_each (r ∷ rs) (a ∷ axes) s m p zero =
     opened_good_axis r a s.0 (and_l (within_reach a r.left) (within_reach a r.right) w) (and_r (within_reach a r.left) (within_reach a r.right) w) (and_l (le_z r.left a.position) (le_z a.position r.right) q) (and_r (le_z r.left a.position) (le_z a.position r.right) q)
 opened_each (r ∷ rs) (a ∷ axes) s m p (suc i) = opened_each rs axes s.1 (and_r (within_reach a r.left && within_reach a r.right) (matches (map opened_axis rs) axes) m) (and_r (le_z r.left a.position && le_z a.position r.right) (placed (map opened_axis rs) axes) p) i
 
-opened_rows : (rs : List SetupRecord) (axes : List Axis) → All SoundAxis axes → T (matches (map opened_axis rs) axes) → T (placed (map opened_axis rs) axes) → (n : ℕ) → Halted (row_or no_axis n (map opened_axis rs)) (row_or no_drive_axis n axes)
+opened_rows : (rs : List SetupRecord) (axes : List Axis) → AllByRecursion SoundAxis axes → T (matches (map opened_axis rs) axes) → T (placed (map opened_axis rs) axes) → (n : ℕ) → Halted (row_or no_axis n (map opened_axis rs)) (row_or no_drive_axis n axes)
 opened_rows rs axes s m p zero = none_good
 opened_rows rs axes s m p (suc i) = opened_each rs axes s m p i
 

@@ -2,7 +2,7 @@
 use Rattle.std.proofs.Common.{◌≡◌, ℕ, zero, suc, ◌≤◌, Bool, true, false, cond, ◌&&◌, T, eqb, leb, ◌⊎◌, List, [], ◌∷◌, ◌++◌, length, drop, ℤ, nat_abs, sym, refl, ap, ◌∙◌, subst, inl, inr, arith, le→leb}
 use lib.Dec.{eqb_refl}
 use Rattle.std.proofs.lemmas.Bool.Decides.{nat_tests}
-use Rattle.std.specs.List.{AllByRecursion as All}
+use Rattle.std.specs.List.{AllByRecursion}
 use Rattle.drive.specs.declared.profile.Profile.{Profile}
 use Rattle.drive.specs.Model.{Axis, start_axis, at_rest}
 use Rattle.drive.specs.Calls.{Told, power_on, power_off, start, stop, set_position, tick, done, replay}
@@ -82,7 +82,7 @@ proper_back j k s tick p = tt
 pub record Fine (k : Core) (t : Trail) : Type 0 where
   pub whole : t.core.drive ≡ replay t.told k.drive
   pub good : Good t.core
-  pub proper : All (Proper k) t.told
+  pub proper : AllByRecursion (Proper k) t.told
   pub mosts : (n : ℕ) → most (settings t.core n) ≡ most (settings k n)
   pub stays : (n : ℕ) → (axis_at t.core n).profile ≡ last_profile n t.told (axis_at k n).profile
 
@@ -102,7 +102,7 @@ last_append n (set_position m z ∷ ts) us q = last_append n ts us q
 last_append n (tick ∷ ts) us q = last_append n ts us q
 
 -- one deed, and another after it
-pub then_fine : (k : Core) (t : Trail) (next : Core → Trail) → Fine k t → Fine t.core (next t.core) → All (Proper k) (next t.core).told → Fine k (and_then t next)
+pub then_fine : (k : Core) (t : Trail) (next : Core → Trail) → Fine k t → Fine t.core (next t.core) → AllByRecursion (Proper k) (next t.core).told → Fine k (and_then t next)
 then_fine k t next h u p =
     let v = next t.core in
     record {
@@ -124,7 +124,7 @@ NoStart (stop n) = Unit {0}
 NoStart (set_position n z) = Unit {0}
 NoStart tick = Unit {0}
 
-last_none : (n : ℕ) (ts : List Told) (q : Profile) → All NoStart ts → last_profile n ts q ≡ q
+last_none : (n : ℕ) (ts : List Told) (q : Profile) → AllByRecursion NoStart ts → last_profile n ts q ≡ q
 last_none n [] q h = refl
 last_none n (power_on m ∷ ts) q h = last_none n ts q h.1
 last_none n (power_off m ∷ ts) q h = last_none n ts q h.1
@@ -141,7 +141,7 @@ profile_told q (stop n) w k a e h = h
 profile_told q (set_position n z) w k a e h = let P : Axis → Type 0 = λ b. b.profile ≡ q k in picked (at_rest a) P _ _ (picked (leb (nat_abs z) a.reach) P _ _ h h) h
 profile_told q tick w k a e h = h
 
-none_stays : (ts : List Told) (xs : List Axis) → All NoStart ts → (n : ℕ) → (row_or no_drive_axis n (replay ts xs)).profile ≡ last_profile n ts (row_or no_drive_axis n xs).profile
+none_stays : (ts : List Told) (xs : List Axis) → AllByRecursion NoStart ts → (n : ℕ) → (row_or no_drive_axis n (replay ts xs)).profile ≡ last_profile n ts (row_or no_drive_axis n xs).profile
 none_stays ts xs h n =
     let q : ℕ → Profile = λ m. (row_or no_drive_axis m xs).profile in
     replay_keeps (λ m a. a.profile ≡ q m) ts xs (all_weaker NoStart _ (profile_told q) ts h) (λ m. refl) n ∙ sym (last_none n ts (q n) h)
@@ -155,7 +155,7 @@ none_proper k (set_position n z) h = tt
 none_proper k tick h = tt
 
 -- the drive is told things that are no starts
-pub tell_fine : (k : Core) (ts : List Told) → Good k → All (Allowed (settings k)) ts → All NoStart ts → Fine k (tell ts k)
+pub tell_fine : (k : Core) (ts : List Told) → Good k → AllByRecursion (Allowed (settings k)) ts → AllByRecursion NoStart ts → Fine k (tell ts k)
 tell_fine k ts g a h = record { whole = refl; good = tell_good k ts g a; proper = all_weaker NoStart (Proper k) (none_proper k) ts h; mosts = λ n. refl; stays = none_stays ts k.drive h }
 
 -- ---- starts
@@ -218,12 +218,12 @@ Propers k q [] zs = Unit {0}
 Propers k q (n ∷ ns) [] = Unit {0}
 Propers k q (n ∷ ns) (z ∷ zs) = ProperStart k n z q × Propers k q ns zs
 
-starts_proper : (k : Core) (q : Profile) (ns : List ℕ) (zs : List ℤ) → Propers k q ns zs → All (Proper k) (starts q ns zs)
+starts_proper : (k : Core) (q : Profile) (ns : List ℕ) (zs : List ℤ) → Propers k q ns zs → AllByRecursion (Proper k) (starts q ns zs)
 starts_proper k q [] zs h = tt
 starts_proper k q (n ∷ ns) [] h = tt
 starts_proper k q (n ∷ ns) (z ∷ zs) h = (h.0, starts_proper k q ns zs h.1)
 
-starts_allowed : (k : Core) (q : Profile) (ns : List ℕ) (zs : List ℤ) → Propers k q ns zs → All (Allowed (settings k)) (starts q ns zs)
+starts_allowed : (k : Core) (q : Profile) (ns : List ℕ) (zs : List ℤ) → Propers k q ns zs → AllByRecursion (Allowed (settings k)) (starts q ns zs)
 starts_allowed k q [] zs h = tt
 starts_allowed k q (n ∷ ns) [] h = tt
 starts_allowed k q (n ∷ ns) (z ∷ zs) h = (h.0.inside, starts_allowed k q ns zs h.1)
@@ -302,7 +302,7 @@ waypoints_same k f g =
       groups = alter_length (with_waypoints f) g k.desk.groups;
     }
 
-first_proper : (k : Core) (g : ℕ) (ws : List (List ℤ)) → Good k → T (all_powered k (members k g)) → All (Fit (settings k) (members k g)) ws → Propers k (group k g).profile (members k g) (first_waypoint ws)
+first_proper : (k : Core) (g : ℕ) (ws : List (List ℤ)) → Good k → T (all_powered k (members k g)) → AllByRecursion (Fit (settings k) (members k g)) ws → Propers k (group k g).profile (members k g) (first_waypoint ws)
 first_proper k g [] good on h = nothing (members k g)
   where
     nothing : (ns : List ℕ) → Propers k (group k g).profile ns []

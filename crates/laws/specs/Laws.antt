@@ -1,7 +1,7 @@
 -- The laws of every run of the console, refused calls and commands among it. Axes and groups are numbered from 1; where a law speaks of
 -- an axis n that is not there, what stands for it rests at 0 between the limits 0 and 0. Assumes nothing.
 use Rattle.std.specs.Prelude.{◌≡◌, ℕ, suc, ◌+◌, ◌≤◌, Bool, true, false, cond, T, List, [], ◌∷◌, ◌++◌, ℤ, ◌≤ℤ◌, Ok, Err, Result, ◌==◌}
-use Rattle.std.specs.List.{AllByRecursion as All}
+use Rattle.std.specs.List.{AllByRecursion}
 use Rattle.drive.specs.declared.profile.Profile.{Profile}
 use Rattle.drive.specs.Model.{Axis, Sound}
 use Rattle.drive.specs.Calls.{Told, power_on, power_off, start, stop, set_position, tick, replay}
@@ -80,8 +80,8 @@ StartIs P tick = Unit {0}
 
 -- every start that the next command tells, and every start that beats tell, is as P says
 pub record StartsAre (P : ℕ → Profile → Type 0) (w : World) (xs : List Call) (cs : List Command) : Type 0 where
-  pub command : (c : Command) → All (StartIs P) (step (state w xs cs) c).told
-  pub beating : (k : ℕ) → All (StartIs P) (beats k (state w xs cs).core).told
+  pub command : (c : Command) → AllByRecursion (StartIs P) (step (state w xs cs) c).told
+  pub beating : (k : ℕ) → AllByRecursion (StartIs P) (beats k (state w xs cs).core).told
 
 -- No start asks more than the maxima of its axis's record.
 abbrev pub NeverOver : List SetupRecord → World → Type 0

@@ -3,7 +3,7 @@ use Rattle.std.proofs.Common.{◌≡◌, ℕ, ◌+◌, ◌*◌, ◌/◌, ◌%◌
 use native.Mathlib.Nat.{div-div-eq-div-mul}
 use lib.Signed.{le_z}
 use mir.Facts.{Fits-of_z}
-use Rattle.std.specs.List.{flat_map, AllByRecursion as All, list_all}
+use Rattle.std.specs.List.{flat_map, AllByRecursion, list_all}
 use Rattle.std.proofs.lemmas.List.{take_at, drop_at, get_or-append_right, length-append}
 use Rattle.std.proofs.lemmas.Bool.{and_parts, and_from, leb-true, cond-true}
 use Rattle.std.proofs.lemmas.Int.{to_z-of_z}
@@ -69,17 +69,17 @@ record_back r rest s =
 pub length_record : (r : SetupRecord) → length r.name ≡ 32 → length (bytes_of r) ≡ 48
 length_record r h = length-append r.name _ ∙ ap (λ n. n + 16) h
 
-pub length_file : (rs : List SetupRecord) → All Encodable rs → length (flat_map bytes_of rs) ≡ 48 * length rs
+pub length_file : (rs : List SetupRecord) → AllByRecursion Encodable rs → length (flat_map bytes_of rs) ≡ 48 * length rs
 length_file [] s = refl
 length_file (r ∷ rs) s = length-append (bytes_of r) (flat_map bytes_of rs) ∙ omega (arith, length_record r s.0.size, length_file rs s.1)
 
-pub records_back : (rs : List SetupRecord) → All Encodable rs → records_of (length rs) (flat_map bytes_of rs) ≡ rs
+pub records_back : (rs : List SetupRecord) → AllByRecursion Encodable rs → records_of (length rs) (flat_map bytes_of rs) ≡ rs
 records_back [] s = refl
 records_back (r ∷ rs) s =
     ap (λ z. z ∷ records_of (length rs) (drop 48 (bytes_of r ++ flat_map bytes_of rs))) (record_back r (flat_map bytes_of rs) s.0)
     ∙ ap (λ z. r ∷ records_of (length rs) z) (drop_at (bytes_of r) (flat_map bytes_of rs) 48 (length_record r s.0.size)) ∙ ap (λ z. r ∷ z) (records_back rs s.1)
 
-pub all_lawful : (rs : List SetupRecord) → All Encodable rs → list_all lawful rs ≡ true
+pub all_lawful : (rs : List SetupRecord) → AllByRecursion Encodable rs → list_all lawful rs ≡ true
 all_lawful [] s = refl
 all_lawful (r ∷ rs) s = and_from (lawful r) (list_all lawful rs) s.0.keeps (all_lawful rs s.1)
 

@@ -1,7 +1,7 @@
 -- Setup records written as bytes, and the law that reading gives them back. Assumes nothing.
 use Rattle.std.specs.Prelude.{◌≡◌, ℕ, ◌+◌, ◌*◌, ◌≤◌, true, cond, List, ◌++◌, length, take, drop, Some, None, Ok, Option, FitsSigned, nat_le}
 use Rattle.std.specs.Int.{w32}
-use Rattle.std.specs.List.{flat_map, AllByRecursion as All}
+use Rattle.std.specs.List.{flat_map, AllByRecursion}
 use Rattle.setup.specs.declared.record.SetupRecord.{SetupRecord}
 use Rattle.setup.specs.Records.{bytes_of, lawful}
 use Rattle.setup.specs.Setups.{decoded}
@@ -23,4 +23,4 @@ pub record Encodable (r : SetupRecord) : Type 0 where
 
 -- bytes that are read as the records, if there are 2 to 12 and each keeps the layout
 abbrev pub ReadsBack : List SetupRecord → List ℕ → Type 0
-ReadsBack rs bs = 2 ≤ length rs → length rs ≤ 12 → All Encodable rs → decoded bs ≡ Ok rs
+ReadsBack rs bs = 2 ≤ length rs → length rs ≤ 12 → AllByRecursion Encodable rs → decoded bs ≡ Ok rs
