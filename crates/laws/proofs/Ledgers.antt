@@ -1,5 +1,5 @@
 -- Desk and ledger.
-use Rattle.std.proofs.Common.{◌≡◌, ℕ, zero, suc, ◌+◌, ◌≤◌, Bool, true, false, cond, not, ◌&&◌, ◌||◌, T, eqb, ltb, leb, List, [], ◌∷◌, ◌++◌, map, length, ℤ, Some, None, Ok, Err, Option, Result, sym, refl, ap, ◌∙◌, subst, inl, inr, arith, le→leb, eqb→eq}
+use Rattle.std.proofs.Common.{◌≡◌, ℕ, zero, suc, ◌≤◌, Bool, true, false, cond, not, ◌&&◌, ◌||◌, T, eqb, ltb, leb, List, [], ◌∷◌, ◌++◌, map, length, ℤ, Some, None, Ok, Err, Option, Result, sym, refl, ap, ◌∙◌, subst, inl, inr, arith, le→leb, eqb→eq}
 use Rattle.std.proofs.lemmas.Bool.{lt-ltb, ne_eqb}
 use Rattle.drive.specs.declared.profile.Profile.{Profile}
 use Rattle.drive.specs.Model.{Axis}
@@ -16,7 +16,6 @@ use Rattle.desk.specs.Tables.{there, row_or, alter}
 use Rattle.desk.specs.Axes.{no_axis, with_own, with_left, with_right, with_digits, smallest_own}
 use Rattle.desk.specs.Desks.{DeskModel, on_axis, at_group, on_group, in_use, can_join, formed, dissolved, digits_set}
 use Rattle.rules.specs.World.{Core, World, settings, group, members, axis_count, group_count, grouped, numbers, with_desk, with_drive}
-use Rattle.rules.specs.Refusals as R
 use Rattle.rules.specs.Refusals.{where_so, needs, entry, asking, number_or, axis_named, group_named, names_all, given, values, units, whole_value, tests_of, tests, each_axis, each_new}
 use Rattle.rules.specs.Deeds.{tell, all_rest, waits, still, group_still, send, all_emptied, beats, does, unless_asking, performed}
 use Rattle.rules.specs.Steps.{step, settled, accepted, run_commands}

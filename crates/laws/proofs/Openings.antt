@@ -1,5 +1,5 @@
 -- The state after an opening.
-use Rattle.std.proofs.Common.{◌≡◌, ℕ, zero, suc, ◌+◌, ◌/◌, ◌<◌, ◌≤◌, ◌&&◌, T, ◌⊎◌, List, [], ◌∷◌, map, length, get_or, replicate, ℤ, ◌≤ℤ◌, sym, refl, ap, ◌∙◌, subst, inl, inr, arith, leb→le}
+use Rattle.std.proofs.Common.{◌≡◌, ℕ, zero, suc, ◌+◌, ◌/◌, ◌<◌, ◌≤◌, ◌&&◌, T, ◌⊎◌, List, [], ◌∷◌, map, length, get_or, replicate, ◌≤ℤ◌, sym, refl, ap, ◌∙◌, subst, inl, inr, arith, leb→le}
 use lib.Signed.{le_z}
 use Rattle.std.proofs.lemmas.Int.{ints}
 use Rattle.std.proofs.lemmas.List.{get_or_past}

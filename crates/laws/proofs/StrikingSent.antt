@@ -1,5 +1,5 @@
 -- A line sent in a run is the line call. Assumes nothing.
-use Rattle.std.proofs.Common.{◌≡◌, ℕ, zero, suc, ◌+◌, ◌-◌, List, [], ◌∷◌, ◌++◌, length, take, drop, Ok, Err, Result, sym, refl, ap}
+use Rattle.std.proofs.Common.{◌≡◌, ℕ, zero, suc, ◌+◌, ◌-◌, List, [], ◌++◌, length, take, drop, Ok, Err, Result, sym, refl, ap}
 use Rattle.number.specs.Writing.{write}
 use Rattle.queue.specs.declared.refusal.Refusal.{Refusal}
 use Rattle.rules.specs.World.{World}

@@ -1,5 +1,5 @@
 -- The tests of a command without its columns are its tests, but for the columns. Assumes nothing.
-use Rattle.std.proofs.Common.{◌≡◌, ℕ, suc, Bool, cond, not, ◌&&◌, ◌||◌, eqb, ltb, leb, List, [], ◌∷◌, ◌++◌, map, length, ℤ, pos, ◌+ℤ◌, is_some, Some, None, Option, refl, ap, ◌∙◌}
+use Rattle.std.proofs.Common.{◌≡◌, ℕ, suc, Bool, cond, not, ◌&&◌, ◌||◌, eqb, ltb, leb, List, [], ◌∷◌, ◌++◌, map, length, pos, ◌+ℤ◌, is_some, Some, None, Option, refl, ap, ◌∙◌}
 use lib.Signed.{lt_z, le_z}
 use Rattle.std.specs.Option.{option_map}
 use Rattle.number.specs.Decimals.{read_decimal}

@@ -4,7 +4,7 @@ use Rattle.std.proofs.lemmas.List.{reverse-append, reverse-reverse, length-appen
 use Rattle.std.specs.List.{prefix_len, suffix_len}
 use Rattle.std.proofs.lemmas.List.Sums.{prefix_len-le-length, suffix_len-le-length}
 use Rattle.std.proofs.lemmas.Bool.{eqb-true, not-false, and_parts, and_from, eq-eqb}
-use Rattle.command.specs.Lines.{blank, apart, trimmed, up_to, begun, later, parts}
+use Rattle.command.specs.Lines.{blank, apart, trimmed, up_to, begun, later}
 use Rattle.command.specs.Commands.{Command, commands_of}
 use Rattle.laws.specs.Strike.{first_flag, later_flags, unflagged, texts, behind, together, all_blank, without_command, struck_texts, struck_line, LinesStruck}
 use Rattle.laws.proofs.StrikingViews.{view}

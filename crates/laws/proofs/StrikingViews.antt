@@ -6,7 +6,7 @@ use Rattle.number.specs.Digits.{number}
 use Rattle.command.specs.Commands.{Field, Command, prefix_number}
 use Rattle.queue.specs.declared.error_entry.ErrorEntry.{ErrorEntry}
 pub use Rattle.laws.specs.Strike.{field_without_column as field-view, without_columns as view}
-use Rattle.rules.specs.Refusals.{Test, needs, entry, refusal, where_so, value, units, given, first_of, column_or, given_column, blank_field, none_blank}
+use Rattle.rules.specs.Refusals.{Test, needs, refusal, where_so, value, units, given, first_of, column_or, given_column, blank_field, none_blank}
 
 -- an error entry, and a test, with column 0
 abbrev pub entry_view : ErrorEntry → ErrorEntry

@@ -1,23 +1,23 @@
 -- The calls: opening, line, ticks and error view. Each gives the answer as a number (0, or that of the refusal) and values, the world after
 -- it, and the line call every byte of the reply buffer. Assumes nothing.
-use Rattle.std.specs.Prelude.{ℕ, suc, Bool, true, false, cond, not, ◌&&◌, List, [], ◌∷◌, ◌++◌, map, length, ℤ, Some, None, Ok, Err, Option, Result, int_le, nat_le, nat_lt, unsigned_abs}
+use Rattle.std.specs.Prelude.{ℕ, Bool, true, false, cond, ◌&&◌, List, [], ◌∷◌, map, length, ℤ, Some, None, Ok, Err, Option, Result, int_le, nat_le, nat_lt, unsigned_abs}
 use Rattle.drive.specs.Model.{Axis}
-use Rattle.drive.specs.Calls.{Told, power_off, replay}
+use Rattle.drive.specs.Calls.{power_off, replay}
 use Rattle.number.specs.Writing.{write}
 use Rattle.command.specs.Lines.{line_of}
-use Rattle.command.specs.Commands.{Command, commands_of}
+use Rattle.command.specs.Commands.{commands_of}
 use Rattle.queue.specs.declared.error_entry.ErrorEntry.{ErrorEntry}
 use Rattle.queue.specs.declared.fault.Fault.TheVariants.{LineTooLong}
 use Rattle.queue.specs.declared.refusal.Refusal.{Refusal}
-use Rattle.queue.specs.declared.refusal.Refusal.TheVariants.{RecordCount, RecordLayout, DriveMismatch, OutsideLimits, ReplyTooSmall, LineOpen, TickCount, NoSuchError}
+use Rattle.queue.specs.declared.refusal.Refusal.TheVariants.{DriveMismatch, OutsideLimits, ReplyTooSmall, LineOpen, TickCount, NoSuchError}
 use Rattle.queue.specs.Refusals.{number_of}
 use Rattle.queue.specs.Faults.{code_of}
 use Rattle.queue.specs.Errors.{nth_error}
 use Rattle.setup.specs.declared.record.SetupRecord.{SetupRecord}
 use Rattle.setup.specs.Setups.{decoded}
 use Rattle.desk.specs.declared.axis_settings.AxisSettings.{AxisSettings}
-use Rattle.desk.specs.Desks.{DeskModel, unopened_desk, opened_desk}
-use Rattle.rules.specs.World.{Core, World, numbers, with_drive}
+use Rattle.desk.specs.Desks.{unopened_desk, opened_desk}
+use Rattle.rules.specs.World.{World, numbers}
 use Rattle.rules.specs.Refusals.{entry}
 use Rattle.rules.specs.Deeds.{beats}
 use Rattle.rules.specs.Steps.{Outcome, with_error, run_commands, outcomes, all_replies}

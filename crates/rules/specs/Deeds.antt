@@ -1,12 +1,12 @@
 -- What an accepted command does, and what the drive is told on the way. Assumes nothing.
-use Rattle.std.specs.Prelude.{ℕ, zero, suc, Bool, true, false, cond, not, ◌&&◌, ◌||◌, List, [], ◌∷◌, ◌++◌, map, length, ℤ, ◌+ℤ◌, Some, None, Option, nat_lt, unsigned_abs}
+use Rattle.std.specs.Prelude.{ℕ, zero, suc, Bool, true, false, not, ◌&&◌, ◌||◌, List, [], ◌∷◌, ◌++◌, map, length, ℤ, ◌+ℤ◌, Some, None, Option, nat_lt, unsigned_abs}
 use Rattle.std.specs.List.{list_all}
 use Rattle.drive.specs.declared.profile.Profile.{Profile}
 use Rattle.drive.specs.Calls.{Told, power_on, power_off, start, stop, set_position, tick, replay}
 use Rattle.command.specs.declared.mnemonic.Mnemonic.{Mnemonic}
 use Rattle.command.specs.declared.mnemonic.Mnemonic.TheVariants.{Va, Ac, Ag, Sl, Sr, Fp, Mo, Mf, Pa, Pr, St, Dh, Ws, Id, Tp, Dp, Md, Hn, Hx, Hv, Ha, Hd, Ho, Hf, Hl, Hp, Hw, Ab, Wt, Tb, Te}
 use Rattle.command.specs.Commands.{Command}
-use Rattle.groups.specs.Groups.{GroupModel, with_waypoints}
+use Rattle.groups.specs.Groups.{with_waypoints}
 use Rattle.desk.specs.Desks.{DeskModel, velocity_set, acceleration_set, deceleration_set, left_set, right_set, digits_set, group_velocity_set, group_acceleration_set, group_deceleration_set, formed, dissolved, waypoint_queued, waypoint_taken, waypoints_emptied}
 use Rattle.rules.specs.World.{Core, numbers, axis_count, group_count, settings, group, members, axis_at, resting, powered, with_desk, with_drive}
 use Rattle.rules.specs.Refusals.{asking, axis_named, group_named, names_all, given, values, units, whole_value}

@@ -1,6 +1,6 @@
 -- When a command is refused: each rule as the tests that it makes, in the order of the rules. The first test that fails gives the
 -- fault and its column. Assumes nothing.
-use Rattle.std.specs.Prelude.{ℕ, zero, suc, ◌/◌, ◌%◌, min, Bool, true, false, cond, not, ◌&&◌, ◌||◌, List, [], ◌∷◌, ◌++◌, map, length, ℤ, pos, negsuc, ◌+ℤ◌, is_some, Some, None, Option, ◌==◌, int_le, int_lt, nat_le, nat_lt, unsigned_abs}
+use Rattle.std.specs.Prelude.{ℕ, suc, ◌/◌, ◌%◌, Bool, true, false, cond, not, ◌&&◌, ◌||◌, List, [], ◌∷◌, ◌++◌, map, length, ℤ, pos, negsuc, ◌+ℤ◌, is_some, Some, None, Option, ◌==◌, int_le, int_lt, nat_le, nat_lt, unsigned_abs}
 use Rattle.number.specs.Decimals.{read_decimal}
 use Rattle.command.specs.declared.mnemonic.Mnemonic.{Mnemonic}
 use Rattle.command.specs.declared.mnemonic.Mnemonic.TheVariants.{Va, Ac, Ag, Sl, Sr, Fp, Pa, Pr, Dh, Ws, Hn, Hv, Ha, Hd, Hl, Wt}

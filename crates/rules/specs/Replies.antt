@@ -1,5 +1,5 @@
 -- What an accepted command answers. Assumes nothing.
-use Rattle.std.specs.Prelude.{ℕ, Bool, true, false, cond, List, [], ◌∷◌, ◌++◌, map, ℤ, pos, Some, None, Option}
+use Rattle.std.specs.Prelude.{ℕ, Bool, true, false, List, [], ◌∷◌, ◌++◌, map, ℤ, pos, Some, None, Option}
 use Rattle.number.specs.Texts.{whole_text, setting_text, position_text, list_text, line_end}
 use Rattle.command.specs.declared.mnemonic.Mnemonic.{Mnemonic}
 use Rattle.command.specs.declared.mnemonic.Mnemonic.TheVariants.{Va, Ac, Ag, Sl, Sr, Fp, Mo, Mf, Pa, Pr, St, Dh, Ws, Id, Tp, Dp, Md, Hn, Hx, Hv, Ha, Hd, Ho, Hf, Hl, Hp, Hw, Ab, Wt, Tb, Te}
@@ -9,7 +9,7 @@ use Rattle.queue.specs.declared.fault.Fault.{Fault}
 use Rattle.queue.specs.Faults.{told_code, told_message}
 use Rattle.desk.specs.Axes.{name_text}
 use Rattle.rules.specs.World.{Core, settings, group, members, axis_at, resting, powered}
-use Rattle.rules.specs.Refusals.{asking, axis_named, group_named}
+use Rattle.rules.specs.Refusals.{axis_named, group_named}
 
 -- a reply ends with CR and LF
 abbrev pub reply_of : List ℕ → List ℕ

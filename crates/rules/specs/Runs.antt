@@ -1,10 +1,10 @@
 -- Runs: calls one after another. Assumes nothing.
-use Rattle.std.specs.Prelude.{ℕ, List, [], ◌∷◌, ◌++◌, Ok, Err, Result}
-use Rattle.command.specs.Commands.{Command, commands_of}
+use Rattle.std.specs.Prelude.{ℕ, List, [], ◌∷◌, Ok, Err, Result}
+use Rattle.command.specs.Commands.{Command}
 use Rattle.queue.specs.declared.refusal.Refusal.{Refusal}
 use Rattle.rules.specs.World.{Core, World}
 use Rattle.rules.specs.Deeds.{beats}
-use Rattle.rules.specs.Steps.{Outcome, outcomes, run_commands}
+use Rattle.rules.specs.Steps.{Outcome, run_commands}
 use Rattle.rules.specs.Calls.{too_long, line_world, line_outcomes, line_taken, ticks_call}
 
 -- a call after the opening: a line with the size of its reply buffer, a number of ticks, or the number of an error

@@ -1,5 +1,5 @@
 -- Worked lines: what the definitions give for them. Assumes nothing.
-use Rattle.std.specs.Prelude.{◌≡◌, ℕ, List, [], ◌∷◌, ◌++◌, map, take, replicate, ℤ, pos, negsuc, Some, codes, slice_index}
+use Rattle.std.specs.Prelude.{◌≡◌, ℕ, List, [], ◌∷◌, ◌++◌, map, take, replicate, pos, negsuc, Some, codes, slice_index}
 use Rattle.std.specs.List.{flat_map}
 use Rattle.drive.specs.Model.{Axis}
 use Rattle.stage.specs.Stages.{fresh_axis}

@@ -6,7 +6,7 @@ use Rattle.command.specs.declared.mnemonic.Mnemonic.TheVariants.{Tb, Te}
 use Rattle.command.specs.Commands.{Command}
 use Rattle.queue.specs.declared.error_entry.ErrorEntry.{ErrorEntry}
 use Rattle.queue.specs.Queue.{pushed}
-use Rattle.rules.specs.World.{Core, World}
+use Rattle.rules.specs.World.{World}
 use Rattle.rules.specs.Kinds.{is, among, error_commands}
 use Rattle.rules.specs.Refusals.{asking, refused_by}
 use Rattle.rules.specs.Deeds.{perform}

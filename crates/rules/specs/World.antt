@@ -1,14 +1,12 @@
 -- What the console keeps and moves. Assumes nothing.
-use Rattle.std.specs.Prelude.{ℕ, zero, suc, Bool, true, false, cond, ◌&&◌, ◌||◌, List, [], ◌∷◌, map, length, ℤ, pos, Some, None, Option}
-use Rattle.std.specs.List.{list_all}
-use Rattle.drive.specs.declared.profile.Profile.{Profile}
+use Rattle.std.specs.Prelude.{ℕ, zero, suc, Bool, false, ◌||◌, List, [], ◌∷◌, length, pos}
 use Rattle.drive.specs.Model.{Axis, at_rest}
 use Rattle.queue.specs.declared.error_entry.ErrorEntry.{ErrorEntry}
 use Rattle.queue.specs.Errors.{entries}
 use Rattle.groups.specs.Groups.{GroupModel, has}
 use Rattle.groups.specs.Profiles.{no_profile}
 use Rattle.desk.specs.declared.axis_settings.AxisSettings.{AxisSettings}
-use Rattle.desk.specs.Tables.{there, row_or}
+use Rattle.desk.specs.Tables.{row_or}
 use Rattle.desk.specs.Axes.{no_axis}
 use Rattle.desk.specs.declared.desk_state.Desk.{Desk}
 use Rattle.desk.specs.declared.state.State.{State}
