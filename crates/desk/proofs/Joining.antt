@@ -1,68 +1,50 @@
--- The members of a group, and the groups, one more at a time.
-use Rattle.std.proofs.Common.{◌≡◌, ℕ, zero, suc, ◌+◌, ◌-◌, ◌<◌, ◌≤◌, true, cond, leb, List, [], ◌∷◌, ◌++◌, map, length, get_or, take, drop, set, replicate, Some, None, sym, refl, ap, ◌∙◌, add-one, arith}
-use Rattle.std.proofs.lemmas.List.{drop_more, drop_all, map_more, take_more_set, length-set}
-use Rattle.std.proofs.lemmas.Option.{slice_get-get_or}
+-- The members of a group, the groups of an axis, and what a desk opens with.
+use Rattle.std.proofs.Common.{◌≡◌, ℕ, zero, suc, ◌+◌, ◌<◌, ◌≤◌, Bool, true, false, not, cond, ltb, List, [], ◌∷◌, map, length, get_or, drop, replicate, Some, None, Option, refl, ap, arith}
+use Rattle.std.specs.List.{prefix_len, position}
+use Rattle.std.proofs.lemmas.List.{drop_more, drop_all}
 use Rattle.std.proofs.lemmas.Bool.Decides.{nat_tests}
 use Rattle.setup.specs.declared.record.SetupRecord.{SetupRecord}
-use Rattle.setup.specs.Setups.{nth_record}
 use Rattle.drive.specs.declared.profile.Profile.{Profile}
 use Rattle.desk.specs.declared.axis_settings.AxisSettings.{AxisSettings}
-use Rattle.desk.specs.Tables.{row_or}
-use Rattle.desk.specs.Axes.{opened_axis, short, own_of, smallest_own}
-use Rattle.groups.specs.Profiles.{no_profile, lesser, least}
-use Rattle.groups.specs.Groups.{GroupModel, free_group, has}
+use Rattle.desk.specs.Axes.{opened_axis, short, own_of}
+use Rattle.groups.specs.declared.group.Group.{Group}
+use Rattle.groups.specs.Profiles.{lesser, least}
+use Rattle.groups.specs.Groups.{group_model, members_of, has}
 use Rattle.desk.specs.Desks.{first_with}
-use Rattle.desk.proofs.Changes.{all_pass_set}
 
--- the first group with an axis
-pub first_more : (axis k : ℕ) (gs : List GroupModel) → k < length gs → first_with axis (k + 1) (drop k gs) ≡ cond (has axis (row_or free_group (k + 1) gs).members) (Some (k + 1)) (first_with axis (k + 1 + 1) (drop (k + 1) gs))
-first_more axis k gs lt = rw (drop_more gs k free_group lt) (simp add-one)
-
-pub first_all : (axis k : ℕ) (gs : List GroupModel) → length gs ≤ k → first_with axis (k + 1) (drop k gs) ≡ None
-first_all axis k gs h = rw (drop_all k gs h)
-
--- the smallest of the own profiles
-pub smallest_first : (axes : List AxisSettings) (ms : List ℕ) → 0 < length ms → least (own_of axes (get_or ms 0 0)) (map (own_of axes) (drop 1 ms)) ≡ smallest_own axes ms
-smallest_first axes [] h = absurd (omega arith)
-smallest_first axes (m ∷ ms) h = refl
-
-pub least_more : (axes : List AxisSettings) (ms : List ℕ) (k : ℕ) (p : Profile) → k < length ms → least p (map (own_of axes) (drop k ms)) ≡ least (lesser p (own_of axes (get_or ms k 0))) (map (own_of axes) (drop (k + 1) ms))
+-- the smallest of the own profiles, one more at a time
+pub least_more : (axes : List AxisSettings) (ms : List ℕ) (k : ℕ) (p : Profile) → k < length ms →
+    least p (map (own_of axes) (drop k ms)) ≡ least (lesser p (own_of axes (get_or ms k 0))) (map (own_of axes) (drop (k + 1) ms))
 least_more axes ms k p lt = rw (drop_more ms k 0 lt)
 
 pub least_all : (axes : List AxisSettings) (ms : List ℕ) (k : ℕ) (p : Profile) → length ms ≤ k → least p (map (own_of axes) (drop k ms)) ≡ p
 least_all axes ms k p h = rw (drop_all k ms h)
 
--- six free groups, and fewer of them
-pub map_same : {X Y : Type 0} (f : X → Y) (x : X) (y : Y) (n : ℕ) → f x ≡ y → map f (replicate n x) ≡ replicate n y
-map_same f x y zero e = refl
-map_same f x y (suc n) e = ap (λ z. z ∷ map f (replicate n x)) e ∙ ap (λ zs. y ∷ zs) (map_same f x y n e)
+-- the first group with an axis
+abbrev pub with_axis : ℕ → Group → Bool
+with_axis axis g = has axis (members_of g.members)
 
-pub smallest_none : (axes : List AxisSettings) (ms : List ℕ) → length ms ≡ 0 → no_profile ≡ smallest_own axes ms
-smallest_none axes [] h = refl
-smallest_none axes (m ∷ ms) h = absurd (omega arith)
+first_step : (b : Bool) (k n m : ℕ) (o : Option ℕ) → o ≡ cond (ltb n m) (Some (suc k + n)) None →
+    cond b (Some k) o ≡ cond (ltb (cond (not b) (1 + n) 0) (suc m)) (Some (k + cond (not b) (1 + n) 0)) None
+first_step true k n m o e = grind (arith, nat_tests)
+first_step false k n m o e = grind (arith, nat_tests)
 
--- the axes of a setup
-pub record_at : (rs : List SetupRecord) (k : ℕ) (r : SetupRecord) → k < length rs → Some r ≡ nth_record (k + 1) rs → get_or rs k r ≡ r
-record_at rs k r lt e = let s = slice_get-get_or rs k r lt in let n : k + 1 - 1 ≡ k = omega arith in grind (arith, nat_tests)
+first_from : (axis k : ℕ) (gs : List Group) →
+    first_with axis k (map group_model gs) ≡ cond (ltb (prefix_len (λ g. not (with_axis axis g)) gs) (length gs)) (Some (k + prefix_len (λ g. not (with_axis axis g)) gs)) None
+first_from axis k [] = refl
+first_from axis k (g ∷ gs) = first_step (with_axis axis g) k (prefix_len (λ h. not (with_axis axis h)) gs) (length gs) _ (first_from axis (suc k) gs)
 
-pub record_none : (rs : List SetupRecord) (k : ℕ) → k < length rs → None ≡ nth_record (k + 1) rs → ⊥
-record_none [] k lt e = absurd (omega arith)
-record_none (x ∷ rs) k lt e =
-    let s = slice_get-get_or (x ∷ rs) k x lt in let n : k + 1 - 1 ≡ k = omega arith in let z : None ≡ Some (get_or (x ∷ rs) k x) = grind (arith, nat_tests) in
-    let w : ◌≡◌ {A = ℕ} 0 1 = cc in omega arith
+pub first_some : (axis : ℕ) (gs : List Group) (i : ℕ) → Some i ≡ position (with_axis axis) gs → first_with axis 1 (map group_model gs) ≡ Some (i + 1)
+first_some axis gs i e = let f = first_from axis 1 gs in grind (arith, nat_tests)
 
-pub table_more : (rs : List SetupRecord) (axes : List AxisSettings) (k : ℕ) (r : SetupRecord) → k < length rs → k < length axes → Some r ≡ nth_record (k + 1) rs →
-    take k axes ≡ map opened_axis (take k rs) → take (k + 1) (set axes k (opened_axis r)) ≡ map opened_axis (take (k + 1) rs)
-table_more rs axes k r lt lt' e inv =
-    take_more_set axes k (opened_axis r) lt' ∙ ap (λ z. z ++ opened_axis r ∷ []) inv
-    ∙ ap (λ z. map opened_axis (take k rs) ++ opened_axis z ∷ []) (sym (record_at rs k r lt e)) ∙ sym (map_more opened_axis rs k r lt)
+pub first_none : (axis : ℕ) (gs : List Group) → None ≡ position (with_axis axis) gs → first_with axis 1 (map group_model gs) ≡ None
+first_none axis gs e = let f = first_from axis 1 gs in grind (arith, nat_tests)
 
-pub table_turn : (rs : List SetupRecord) (axes after : List AxisSettings) (k : ℕ) (r : SetupRecord) (a : AxisSettings) → k < length rs → k < 12 → Some r ≡ nth_record (k + 1) rs → a ≡ opened_axis r →
-    after ≡ set axes k a → (take k axes ≡ map opened_axis (take k rs)) × (length axes ≡ 12) × (short axes ≡ true) →
-    (take (k + 1) after ≡ map opened_axis (take (k + 1) rs)) × (length after ≡ 12) × (short after ≡ true)
-table_turn rs axes after k r a lt lt' e o s inv =
-    let is : after ≡ set axes k (opened_axis r) = s ∙ ap (λ z. set axes k z) o in (
-      ap (λ z. take (k + 1) z) is ∙ table_more rs axes k r lt (let h = inv.1 in omega arith) e inv.0,
-      ap length is ∙ length-set axes k (opened_axis r) ∙ inv.1,
-      ap short is ∙ all_pass_set (λ x. leb x.digits 6) axes k (opened_axis r) inv.2 refl,
-    )
+-- free groups, and the axes of an opening
+pub map_replicate : {X Y : Type 0} (f : X → Y) (n : ℕ) (x : X) → map f (replicate n x) ≡ replicate n (f x)
+map_replicate f zero x = refl
+map_replicate f (suc n) x = ap (λ zs. f x ∷ zs) (map_replicate f n x)
+
+pub opened_short : (rs : List SetupRecord) → short (map opened_axis rs) ≡ true
+opened_short [] = refl
+opened_short (r ∷ rs) = opened_short rs

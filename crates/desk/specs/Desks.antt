@@ -1,6 +1,7 @@
 -- The desk: the settings of the axes and the groups, and what its operations do. Assumes nothing.
-use Rattle.std.specs.Prelude.{ℕ, suc, ◌/◌, Bool, true, false, cond, not, ◌&&◌, List, [], ◌∷◌, ◌++◌, map, length, take, drop, replicate, ℤ, Some, None, Option, ◌==◌, nat_le, nat_lt}
+use Rattle.std.specs.Prelude.{ℕ, suc, ◌/◌, Bool, true, false, cond, not, ◌&&◌, List, [], ◌∷◌, ◌++◌, map, length, drop, replicate, ℤ, Some, None, Option, ◌==◌, nat_le, nat_lt}
 use Rattle.std.specs.List.{list_all, slice_get}
+use Rattle.fixed.specs.Lists.{held}
 use Rattle.setup.specs.declared.record.SetupRecord.{SetupRecord}
 use Rattle.desk.specs.declared.axis_settings.AxisSettings.{AxisSettings}
 use Rattle.desk.specs.declared.desk_state.Desk.{Desk}
@@ -15,7 +16,7 @@ pub record DeskModel : Type 0 where
 
 -- there are half as many groups as axes
 abbrev pub model_of : Desk → DeskModel
-model_of d = record { axes = take d.count d.axes; groups = map group_model (take (d.count / 2) d.groups) }
+model_of d = record { axes = held d.axes; groups = map group_model (held d.groups) }
 
 abbrev pub unopened_desk : DeskModel
 unopened_desk = record { axes = []; groups = [] }

@@ -1,7 +1,7 @@
 use drive::Profile;
 
 // The settings of one axis.
-#[derive(Clone, Copy)]
+#[derive(Clone, Copy, Default)]
 pub struct AxisSettings {
     // the stage name, filled up with zero bytes
     pub name: [u8; 32],

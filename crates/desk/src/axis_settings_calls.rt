@@ -25,31 +25,11 @@ impl AxisSettings {
         }
     }
 
-    // What stands in the table where there is no axis.
-    pub(crate) fn unused() -> AxisSettings
-        ensures { result.digits ≡ 0 }
-    {
-        let none = Profile {
-            velocity: 0,
-            acceleration: 0,
-            deceleration: 0,
-        };
-        AxisSettings {
-            name: [0; 32],
-            max_velocity: 0,
-            max_acceleration: 0,
-            left: 0,
-            right: 0,
-            own: none,
-            digits: 0,
-        }
-    }
-
     // The stage name without the zero bytes behind it.
     pub fn stage_name(&self) -> &[u8]
         ensures { result.now ≡ name_text self.now }
     {
         let n = text_length(&self.name);
-        &self.name[0..n]
+        &self.name[..n]
     }
 }

@@ -1,4 +1,7 @@
-ghost use Rattle.std.specs.Prelude.{◌≡◌, ◌+◌, length, if◌then◌else◌, Some, None, nat_lt};
+ghost use Rattle.std.specs.Prelude.{◌≡◌};
+ghost use Rattle.std.specs.List.{position};
+ghost use Rattle.fixed.specs.Lists.{held};
+ghost use Rattle.groups.specs.Groups.{members_of, has};
 ghost use Rattle.desk.specs.Desks.{model_of, formed, group_of};
 
 use crate::desk_state::Desk;
@@ -13,43 +16,36 @@ impl Desk {
         let Some(g) = self.find(group) else {
             return false;
         };
-        if g.members.count() != 0 || !self.can_join(members) {
+        if !g.members.is_empty() || !self.can_join(members) {
             return false;
         }
         let Some(all) = Members::new(members) else {
             return false;
         };
         let profile = self.smallest(members);
-        self.groups[group - 1] = Group {
+        let formed = Group {
             members: all,
             profile,
             route: Route::new(),
         };
+        self.groups.set(group - 1, formed);
         true
     }
 
-    // How many groups come before the first that the axis is in; the number of groups where there is none.
-    fn groups_before(&self, axis: usize) -> usize
-        ensures { group_of axis (model_of self.now) ≡ (if nat_lt result (length (model_of self.now).groups) then Some (result + 1) else None) }
+    // The place of the first group that the axis is in, counted from 0.
+    fn place_of(&self, axis: usize) -> Option<usize>
+        ensures { result ≡ position (λ g. has axis (members_of g.members)) (held self.now.groups) }
     {
-        let n = self.group_count();
-        for k in 0..n {
-            if self.members(k + 1).has(axis) {
-                return k;
-            }
-        }
-        n
+        let groups = self.groups.as_slice();
+        groups.iter().position(|g| g.members.has(axis))
     }
 
     // The number of the first group that the axis is a member of.
+    #[tactic(auto, using(crate::proofs::Joining::first_some, crate::proofs::Joining::first_none))]
     pub fn group_of(&self, axis: usize) -> Option<usize>
         ensures { result ≡ group_of axis (model_of self.now) }
     {
-        let k = self.groups_before(axis);
-        if k < self.group_count() {
-            Some(k + 1)
-        } else {
-            None
-        }
+        let place = self.place_of(axis)?;
+        Some(place + 1)
     }
 }

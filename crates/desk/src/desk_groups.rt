@@ -1,8 +1,9 @@
 ghost use Rattle.std.specs.Prelude.{◌≡◌, ◌≤◌, false, length, Some, None};
 ghost use Rattle.queue.specs.Waypoints.{shown};
 ghost use Rattle.desk.specs.Tables.{there};
-ghost use Rattle.groups.specs.Groups.{members_of};
-ghost use Rattle.desk.specs.Desks.{model_of, group_at, group_velocity_set, group_acceleration_set, group_deceleration_set, dissolved, waypoint_queued, waypoint_taken, waypoints_emptied};
+ghost use Rattle.std.specs.Fn.{FnOnceReturnsAtMut};
+ghost use Rattle.groups.specs.Groups.{GroupModel, group_model, members_of};
+ghost use Rattle.desk.specs.Desks.{model_of, group_at, on_group, group_velocity_set, group_acceleration_set, group_deceleration_set, dissolved, waypoint_queued, waypoint_taken, waypoints_emptied};
 ghost use Rattle.desk.specs.Found.{Found, Missing};
 
 use crate::desk_state::Desk;
@@ -15,51 +16,52 @@ impl Desk {
         ensures value { result ≡ length (model_of self.now).groups }
         ensures few { result ≤ 6 }
     {
-        self.sizes() / 2
+        self.groups.len()
     }
 
-    // The group with that number, counted from 1.
+    // The group with that number, counted from 1. A copy: no clause can be shown yet of a `&mut` to an item of an array.
     pub(crate) fn find(&self, group: usize) -> Option<Group>
         ensures { elim result [ Some g ↦ Found self.now group g | None ↦ Missing self.now group ] }
     {
-        if group < 1 || group > self.count / 2 {
-            return None;
-        }
-        Some(self.groups[group - 1])
+        self.groups.get(group.checked_sub(1)?)
     }
 
     // The members of a group; none where it is free or not there.
     pub fn members(&self, group: usize) -> Members
         ensures { members_of result ≡ (group_at group (model_of self.now)).members }
     {
-        match self.find(group) {
-            Some(g) => g.members,
-            None => Members::none(),
-        }
+        self.find(group).map_or(Members::none(), |g| g.members)
     }
 
     // The profile of a group's starts.
     pub fn group_profile(&self, group: usize) -> Profile
         ensures { result ≡ (group_at group (model_of self.now)).profile }
     {
-        match self.find(group) {
-            Some(g) => g.profile,
-            None => Profile {
-                velocity: 0,
-                acceleration: 0,
-                deceleration: 0,
-            },
-        }
+        self.find(group).map_or(Profile::default(), |g| g.profile)
     }
 
     // How many waypoints of a group wait.
     pub fn waypoint_count(&self, group: usize) -> usize
         ensures { result ≡ length (group_at group (model_of self.now)).waypoints }
     {
-        match self.find(group) {
-            Some(g) => g.route.count(),
-            None => 0,
+        self.find(group).map_or(0, |g| g.route.count())
+    }
+
+    // `change` makes another group of one that has members; where it computes f, the table shows f of that row alone.
+    // False where there are no members.
+    fn change_group<F: FnOnce(&mut Group)>(&mut self, group: usize, change: F) -> bool
+        requires { F.IsAlwaysCallable change }
+        ensures { (f : GroupModel → GroupModel) → ((a b : Group) → FnOnceReturnsAtMut F.FnOnce change a tt b → group_model b ≡ f (group_model a)) → (result, model_of self.new) ≡ on_group f group (model_of self.old) }
+    {
+        let Some(mut g) = self.find(group) else {
+            return false;
+        };
+        if g.members.is_empty() {
+            return false;
         }
+        change(&mut g);
+        self.groups.set(group - 1, g);
+        true
     }
 
     // The three figures of a group, false where it has no members.
@@ -67,57 +69,26 @@ impl Desk {
     pub fn set_group_velocity(&mut self, group: usize, velocity: u32) -> bool
         ensures { (result, model_of self.new) ≡ group_velocity_set group velocity (model_of self.old) }
     {
-        let Some(mut g) = self.find(group) else {
-            return false;
-        };
-        if g.members.count() == 0 {
-            return false;
-        }
-        g.profile.velocity = velocity;
-        self.groups[group - 1] = g;
-        true
+        self.change_group(group, |g| g.profile.velocity = velocity)
     }
 
     pub fn set_group_acceleration(&mut self, group: usize, acceleration: u32) -> bool
         ensures { (result, model_of self.new) ≡ group_acceleration_set group acceleration (model_of self.old) }
     {
-        let Some(mut g) = self.find(group) else {
-            return false;
-        };
-        if g.members.count() == 0 {
-            return false;
-        }
-        g.profile.acceleration = acceleration;
-        self.groups[group - 1] = g;
-        true
+        self.change_group(group, |g| g.profile.acceleration = acceleration)
     }
 
     pub fn set_group_deceleration(&mut self, group: usize, deceleration: u32) -> bool
         ensures { (result, model_of self.new) ≡ group_deceleration_set group deceleration (model_of self.old) }
     {
-        let Some(mut g) = self.find(group) else {
-            return false;
-        };
-        if g.members.count() == 0 {
-            return false;
-        }
-        g.profile.deceleration = deceleration;
-        self.groups[group - 1] = g;
-        true
+        self.change_group(group, |g| g.profile.deceleration = deceleration)
     }
 
     // Frees the members and empties the waypoints; false where there are no members.
     pub fn dissolve(&mut self, group: usize) -> bool
         ensures { (result, model_of self.new) ≡ dissolved group (model_of self.old) }
     {
-        let Some(g) = self.find(group) else {
-            return false;
-        };
-        if g.members.count() == 0 {
-            return false;
-        }
-        self.groups[group - 1] = Group::free();
-        true
+        self.change_group(group, |g| *g = Group::free())
     }
 
     // Puts a waypoint behind the others that wait. False where the group has no members, the waypoint has not one position
@@ -128,7 +99,7 @@ impl Desk {
         let Some(mut g) = self.find(group) else {
             return false;
         };
-        if g.members.count() == 0 || g.members.count() != positions.len() {
+        if g.members.is_empty() || g.members.count() != positions.len() {
             return false;
         }
         let Some(w) = Waypoint::new(positions) else {
@@ -137,7 +108,7 @@ impl Desk {
         if !g.route.add(w) {
             return false;
         }
-        self.groups[group - 1] = g;
+        self.groups.set(group - 1, g);
         true
     }
 
@@ -149,7 +120,7 @@ impl Desk {
             return None;
         };
         let first = g.route.take();
-        self.groups[group - 1] = g;
+        self.groups.set(group - 1, g);
         first
     }
 
@@ -158,7 +129,7 @@ impl Desk {
     {
         if let Some(mut g) = self.find(group) {
             g.route.clear();
-            self.groups[group - 1] = g;
+            self.groups.set(group - 1, g);
         }
     }
 }

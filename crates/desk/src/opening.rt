@@ -1,4 +1,5 @@
-ghost use Rattle.std.specs.Prelude.{◌≡◌, ℕ, ◌≤◌, true, map, length, take, replicate};
+ghost use Rattle.std.specs.Prelude.{◌≡◌, ◌/◌, ◌≤◌, true, map, length, replicate};
+ghost use Rattle.fixed.specs.Lists.{held};
 ghost use Rattle.setup.specs.Setups.{records_in};
 ghost use Rattle.desk.specs.Axes.{opened_axis, short};
 ghost use Rattle.groups.specs.Groups.{group_model, free_group};
@@ -6,28 +7,28 @@ ghost use Rattle.desk.specs.Desks.{model_of, unopened_desk, opened_desk};
 
 use crate::axis_settings::AxisSettings;
 use crate::desk_state::Desk;
+use fixed::FixedList;
 use groups::Group;
 use setup::Setup;
 
-fn axis_table(setup: &Setup) -> [AxisSettings; 12]
-    ensures axes { take (length (records_in setup.now)) result ≡ map opened_axis (records_in setup.now) }
-    ensures room { length result ≡ 12 }
-    ensures digits { short result ≡ true }
+fn axis_table(setup: &Setup) -> FixedList<AxisSettings, 12>
+    ensures axes { held result ≡ map opened_axis (records_in setup.now) }
+    ensures digits { short (held result) ≡ true }
 {
-    let mut axes = [AxisSettings::unused(); 12];
-    for k in 0..setup.count() {
-        if let Some(found) = setup.record(k + 1) {
-            axes[k] = AxisSettings::opened(&found);
-        }
+    let mut axes = FixedList::empty(AxisSettings::default());
+    for record in setup.records() {
+        let _ = axes.push(AxisSettings::opened(record));
     }
     axes
 }
 
-fn free_groups() -> [Group; 6]
-    ensures free { (n : ℕ) → n ≤ 6 → map group_model (take n result) ≡ replicate n free_group }
-    ensures room { length result ≡ 6 }
+// Half as many free groups as there are axes.
+fn free_groups(axis_count: usize) -> FixedList<Group, 6>
+    requires { axis_count ≤ 12 }
+    ensures free { map group_model (held result) ≡ replicate (axis_count / 2) free_group }
+    ensures size { length (held result) ≡ axis_count / 2 }
 {
-    [Group::free(); 6]
+    FixedList::repeated(Group::free(), axis_count / 2)
 }
 
 impl Desk {
@@ -36,9 +37,8 @@ impl Desk {
         ensures { model_of result ≡ unopened_desk }
     {
         Desk {
-            axes: [AxisSettings::unused(); 12],
-            count: 0,
-            groups: free_groups(),
+            axes: FixedList::empty(AxisSettings::default()),
+            groups: FixedList::empty(Group::free()),
         }
     }
 
@@ -48,8 +48,7 @@ impl Desk {
     {
         Desk {
             axes: axis_table(setup),
-            count: setup.count(),
-            groups: free_groups(),
+            groups: free_groups(setup.count()),
         }
     }
 }

@@ -1,4 +1,6 @@
 ghost use Rattle.std.specs.Prelude.{◌≡◌, ◌≤◌, true, length};
+ghost use Rattle.std.specs.List.{list_all};
+ghost use Rattle.desk.specs.Tables.{there};
 ghost use Rattle.desk.specs.Axes.{own_of, smallest_own};
 ghost use Rattle.desk.specs.Desks.{model_of, can_join};
 
@@ -8,35 +10,35 @@ use groups::lesser;
 
 impl Desk {
     // The own profile of an axis.
+    #[tactic(auto, using(crate::proofs::Changes::row_or_some, crate::proofs::Changes::row_or_none))]
     pub(crate) fn own_of(&self, axis: usize) -> Profile
         ensures { result ≡ own_of (model_of self.now).axes axis }
     {
-        if !self.has_axis(axis) {
-            return Profile {
-                velocity: 0,
-                acceleration: 0,
-                deceleration: 0,
-            };
+        match self.axis(axis) {
+            Some(settings) => settings.own,
+            None => Profile::default(),
         }
-        self.axes[axis - 1].own
     }
 
     // The smallest of the members' own profiles.
     pub(crate) fn smallest(&self, members: &[u8]) -> Profile
         ensures { result ≡ smallest_own (model_of self.now).axes members.now }
     {
-        if members.len() == 0 {
-            return Profile {
-                velocity: 0,
-                acceleration: 0,
-                deceleration: 0,
-            };
-        }
-        let mut p = self.own_of(members[0] as usize);
-        for k in 1..members.len() {
-            p = lesser(p, self.own_of(members[k] as usize));
+        let Some((first, rest)) = members.split_first() else {
+            return Profile::default();
+        };
+        let mut p = self.own_of(*first as usize);
+        // no `fold`: `search` does not prove what a `fold` of structs gives
+        for member in rest {
+            p = lesser(p, self.own_of(*member as usize));
         }
         p
+    }
+
+    fn all_axes(&self, members: &[u8]) -> bool
+        ensures { result ≡ list_all (λ m. there m (model_of self.now).axes) members.now }
+    {
+        members.iter().all(|m| self.has_axis(*m as usize))
     }
 
     // Whether there are 2 to 12 of them, each of them an axis.
@@ -44,14 +46,6 @@ impl Desk {
         ensures value { result ≡ can_join members.now (model_of self.now) }
         ensures few { result ≡ true → (2 ≤ length members.now) × (length members.now ≤ 12) }
     {
-        if members.len() < 2 || members.len() > 12 {
-            return false;
-        }
-        for k in 0..members.len() {
-            if !self.has_axis(members[k] as usize) {
-                return false;
-            }
-        }
-        true
+        (2..=12).contains(&members.len()) && self.all_axes(members)
     }
 }

@@ -1,6 +1,7 @@
 -- What a group is. Assumes nothing.
-use Rattle.std.specs.Prelude.{ℕ, Bool, false, cond, ◌||◌, List, [], ◌∷◌, length, take, ℤ, Some, None, Option, ◌==◌, nat_le}
+use Rattle.std.specs.Prelude.{ℕ, Bool, false, cond, ◌||◌, List, [], ◌∷◌, length, ℤ, Some, None, Option, ◌==◌, nat_le}
 use Rattle.drive.specs.declared.profile.Profile.{Profile}
+use Rattle.fixed.specs.Lists.{held}
 use Rattle.queue.specs.Waypoints.{waypoints}
 use Rattle.groups.specs.declared.group.Group.{Group}
 use Rattle.groups.specs.declared.members.Members.{Members}
@@ -13,7 +14,7 @@ pub record GroupModel : Type 0 where
   pub waypoints : List (List ℤ)
 
 abbrev pub members_of : Members → List ℕ
-members_of m = take m.size m.axes
+members_of m = held m.list
 
 -- 12 members at most
 abbrev pub members_from : List ℕ → Option (List ℕ)

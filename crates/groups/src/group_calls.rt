@@ -7,18 +7,13 @@ use drive::Profile;
 use queue::Route;
 
 impl Group {
-    // A group without members.
+    // A group without members. No `Default` beside it: the name says more, and nothing generic makes one.
     pub fn free() -> Group
         ensures { group_model result ≡ free_group }
     {
-        let none = Profile {
-            velocity: 0,
-            acceleration: 0,
-            deceleration: 0,
-        };
         Group {
             members: Members::none(),
-            profile: none,
+            profile: Profile::default(),
             route: Route::new(),
         }
     }

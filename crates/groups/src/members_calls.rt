@@ -1,15 +1,23 @@
-ghost use Rattle.std.specs.Prelude.{◌≡◌, [], length, nat_lt};
+ghost use Rattle.std.specs.Prelude.{◌≡◌, [], length, ◌==◌};
+ghost use Rattle.std.specs.List.{list_any};
 ghost use Rattle.groups.specs.Groups.{members_of, members_from, listed, has};
 
 use crate::members::Members;
+use fixed::FixedList;
+
+fn is_among(axes: &[u8], axis: usize) -> bool
+    ensures { result ≡ list_any (λ m. m == axis) axes.now }
+{
+    axes.iter().any(|member| *member as usize == axis)
+}
 
 impl Members {
+    // No `Default` beside it: the name says more, and nothing generic makes one.
     pub fn none() -> Members
         ensures { members_of result ≡ [] }
     {
         Members {
-            axes: [0; 12],
-            size: 0,
+            list: FixedList::empty(0),
         }
     }
 
@@ -17,44 +25,33 @@ impl Members {
     pub fn new(axes: &[u8]) -> Option<Members>
         ensures { listed result ≡ members_from axes.now }
     {
-        let size = axes.len();
-        if size > 12 {
-            return None;
-        }
-        let mut all = [0; 12];
-        let front = &mut all[0..size];
-        front.copy_from_slice(axes);
-        Some(Members { axes: all, size })
+        let list = FixedList::from_slice(axes, 0)?;
+        Some(Members { list })
     }
 
     pub fn axes(&self) -> &[u8]
         ensures { result.now ≡ members_of self.now }
     {
-        &self.axes[0..self.size]
+        self.list.as_slice()
     }
 
     pub fn count(&self) -> usize
         ensures { result ≡ length (members_of self.now) }
     {
-        self.size
+        self.list.len()
     }
 
-    // The place of an axis among the members, counted from 0; their number where it is none.
-    fn place(&self, axis: usize) -> usize
-        ensures { nat_lt result (length (members_of self.now)) ≡ has axis (members_of self.now) }
+    pub fn is_empty(&self) -> bool
+        ensures { result ≡ (length (members_of self.now) == 0) }
     {
-        for k in 0..self.size {
-            if self.axes[k] as usize == axis {
-                return k;
-            }
-        }
-        self.count()
+        self.list.is_empty()
     }
 
     // Whether an axis is a member.
+    #[tactic(auto, using(crate::proofs::Membership::has_any))]
     pub fn has(&self, axis: usize) -> bool
         ensures { result ≡ has axis (members_of self.now) }
     {
-        self.place(axis) < self.count()
+        is_among(self.axes(), axis)
     }
 }

@@ -1,4 +1,3 @@
-use crate::entry::Entry;
 use crate::fault::Fault;
 
 // A coded refusal that waits to be read, with the column it stands at, counted from 1.
@@ -8,12 +7,7 @@ pub struct ErrorEntry {
     pub column: usize,
 }
 
-impl Entry for ErrorEntry {
-    const MOST: usize = 10;
-
-    ghost most = { 10 };
-
-    fn limit() -> usize {
-        Self::MOST
-    }
+impl ErrorEntry {
+    // The greatest number that may wait.
+    pub const MOST: usize = 10;
 }

@@ -6,9 +6,10 @@ ghost use Rattle.std.specs.List.{slice_get};
 use crate::error_entry::ErrorEntry;
 use crate::error_queue::ErrorQueue;
 use crate::fault::Fault;
-use crate::slots;
+use fixed::FixedList;
 
 impl ErrorQueue {
+    // No `Default` beside it: nothing generic makes one.
     pub fn new() -> ErrorQueue
         ensures { entries result ≡ [] }
     {
@@ -17,8 +18,7 @@ impl ErrorQueue {
             column: 0,
         };
         ErrorQueue {
-            slots: [unused; 10],
-            len: 0,
+            list: FixedList::empty(unused),
         }
     }
 
@@ -26,7 +26,10 @@ impl ErrorQueue {
     pub fn push(&mut self, entry: ErrorEntry)
         ensures { entries self.new ≡ pushed 10 (entries self.old) entry }
     {
-        slots::push(&mut self.slots, &mut self.len, entry);
+        if self.list.is_full() {
+            let _ = self.list.pop_front();
+        }
+        let _ = self.list.push(entry);
     }
 
     // Takes the oldest out.
@@ -34,28 +37,25 @@ impl ErrorQueue {
         ensures value { result ≡ slice_get (entries self.old) 0 }
         ensures list { entries self.new ≡ drop 1 (entries self.old) }
     {
-        slots::take(&mut self.slots, &mut self.len)
+        self.list.pop_front()
     }
 
     // The n-th oldest, counted from 1. It stays.
     pub fn nth(&self, n: usize) -> Option<ErrorEntry>
         ensures { result ≡ nth_error n (entries self.now) }
     {
-        if n == 0 {
-            return None;
-        }
-        slots::nth_oldest(&self.slots, self.len, n - 1)
+        self.list.get(n.checked_sub(1)?)
     }
 
     pub fn count(&self) -> usize
         ensures { result ≡ length (entries self.now) }
     {
-        slots::count(&self.slots, self.len)
+        self.list.len()
     }
 
     pub fn clear(&mut self)
         ensures { entries self.new ≡ [] }
     {
-        slots::clear(&mut self.slots, &mut self.len);
+        self.list.clear();
     }
 }

@@ -1,14 +1,15 @@
-ghost use Rattle.std.specs.Prelude.{◌≡◌};
+ghost use Rattle.std.specs.Prelude.{◌≡◌, Some};
 ghost use Rattle.queue.specs.Faults.{code_of, message_of, told_code, told_message};
 
 use crate::fault::Fault;
+use std::fmt;
 
-impl Fault {
-    // The number that the console tells: for a fault of an axis, 100 times the axis's number is in it.
-    pub fn code(self) -> u16
-        ensures { result ≡ code_of self }
-    {
-        match self {
+// The number that the console tells: for a fault of an axis, 100 times the axis's number is in it.
+impl From<Fault> for u16 {
+    ghost from_gives = { λ fault code. code ≡ code_of fault };
+
+    fn from(fault: Fault) -> u16 {
+        match fault {
             Fault::UnknownCommand => 6,
             Fault::ParameterOutOfRange => 7,
             Fault::AxisOutOfRange => 9,
@@ -39,41 +40,65 @@ impl Fault {
             Fault::InGroup(axis) => 100 * axis as u16 + 31,
         }
     }
+}
+
+impl Fault {
+    // The number that the console tells.
+    pub fn code(self) -> u16
+        ensures { result ≡ code_of self }
+    {
+        self.into()
+    }
 
     // The text that goes with the code.
-    pub fn message(self) -> &'static [u8]
+    pub fn text(self) -> &'static str
         ensures { result.now ≡ message_of self }
     {
         match self {
-            Fault::UnknownCommand => b"COMMAND DOES NOT EXIST",
-            Fault::ParameterOutOfRange => b"PARAMETER OUT OF RANGE",
-            Fault::AxisOutOfRange => b"AXIS NUMBER OUT OF RANGE",
-            Fault::GroupMissing => b"GROUP NUMBER MISSING",
-            Fault::GroupOutOfRange => b"GROUP NUMBER OUT OF RANGE",
-            Fault::GroupNotAssigned => b"GROUP NUMBER NOT ASSIGNED",
-            Fault::GroupAlreadyAssigned => b"GROUP NUMBER ALREADY ASSIGNED",
-            Fault::GroupAxisOutOfRange => b"GROUP AXIS OUT OF RANGE",
-            Fault::GroupAxisAlreadyAssigned => b"GROUP AXIS ALREADY ASSIGNED",
-            Fault::GroupAxisDuplicated => b"GROUP AXIS DUPLICATED",
-            Fault::GroupParameterMissing => b"GROUP PARAMETER MISSING",
-            Fault::GroupParameterOutOfRange => b"GROUP PARAMETER OUT OF RANGE",
-            Fault::GroupVelocityExceeded => b"GROUP MAXIMUM VELOCITY EXCEEDED",
-            Fault::GroupAccelerationExceeded => b"GROUP MAXIMUM ACCELERATION EXCEEDED",
-            Fault::GroupDecelerationExceeded => b"GROUP MAXIMUM DECELERATION EXCEEDED",
-            Fault::AxisMissing => b"AXIS NUMBER MISSING",
-            Fault::ParameterMissing => b"COMMAND PARAMETER MISSING",
-            Fault::LineTooLong => b"LINE TOO LONG",
-            Fault::WaypointsFull => b"WAYPOINT BUFFER FULL",
-            Fault::AxisParameterOutOfRange(_) => b"PARAMETER OUT OF RANGE",
-            Fault::PositiveLimitExceeded(_) => b"POSITIVE SOFTWARE LIMIT EXCEEDED",
-            Fault::NegativeLimitExceeded(_) => b"NEGATIVE SOFTWARE LIMIT EXCEEDED",
-            Fault::VelocityExceeded(_) => b"MAXIMUM VELOCITY EXCEEDED",
-            Fault::AccelerationExceeded(_) => b"MAXIMUM ACCELERATION EXCEEDED",
-            Fault::MotorNotEnabled(_) => b"MOTOR NOT ENABLED",
-            Fault::VelocityOutOfRange(_) => b"SPEED OUT OF RANGE",
-            Fault::ChangeNotAllowed(_) => b"PARAMETER CHANGE NOT ALLOWED",
-            Fault::InGroup(_) => b"COMMAND NOT ALLOWED DUE TO GROUP ASSIGNMENT",
+            Fault::UnknownCommand => "COMMAND DOES NOT EXIST",
+            Fault::ParameterOutOfRange => "PARAMETER OUT OF RANGE",
+            Fault::AxisOutOfRange => "AXIS NUMBER OUT OF RANGE",
+            Fault::GroupMissing => "GROUP NUMBER MISSING",
+            Fault::GroupOutOfRange => "GROUP NUMBER OUT OF RANGE",
+            Fault::GroupNotAssigned => "GROUP NUMBER NOT ASSIGNED",
+            Fault::GroupAlreadyAssigned => "GROUP NUMBER ALREADY ASSIGNED",
+            Fault::GroupAxisOutOfRange => "GROUP AXIS OUT OF RANGE",
+            Fault::GroupAxisAlreadyAssigned => "GROUP AXIS ALREADY ASSIGNED",
+            Fault::GroupAxisDuplicated => "GROUP AXIS DUPLICATED",
+            Fault::GroupParameterMissing => "GROUP PARAMETER MISSING",
+            Fault::GroupParameterOutOfRange => "GROUP PARAMETER OUT OF RANGE",
+            Fault::GroupVelocityExceeded => "GROUP MAXIMUM VELOCITY EXCEEDED",
+            Fault::GroupAccelerationExceeded => "GROUP MAXIMUM ACCELERATION EXCEEDED",
+            Fault::GroupDecelerationExceeded => "GROUP MAXIMUM DECELERATION EXCEEDED",
+            Fault::AxisMissing => "AXIS NUMBER MISSING",
+            Fault::ParameterMissing => "COMMAND PARAMETER MISSING",
+            Fault::LineTooLong => "LINE TOO LONG",
+            Fault::WaypointsFull => "WAYPOINT BUFFER FULL",
+            Fault::AxisParameterOutOfRange(_) => "PARAMETER OUT OF RANGE",
+            Fault::PositiveLimitExceeded(_) => "POSITIVE SOFTWARE LIMIT EXCEEDED",
+            Fault::NegativeLimitExceeded(_) => "NEGATIVE SOFTWARE LIMIT EXCEEDED",
+            Fault::VelocityExceeded(_) => "MAXIMUM VELOCITY EXCEEDED",
+            Fault::AccelerationExceeded(_) => "MAXIMUM ACCELERATION EXCEEDED",
+            Fault::MotorNotEnabled(_) => "MOTOR NOT ENABLED",
+            Fault::VelocityOutOfRange(_) => "SPEED OUT OF RANGE",
+            Fault::ChangeNotAllowed(_) => "PARAMETER CHANGE NOT ALLOWED",
+            Fault::InGroup(_) => "COMMAND NOT ALLOWED DUE TO GROUP ASSIGNMENT",
         }
+    }
+
+    // The same as bytes.
+    pub fn message(self) -> &'static [u8]
+        ensures { result.now ≡ message_of self }
+    {
+        self.text().as_bytes()
+    }
+}
+
+impl fmt::Display for Fault {
+    ghost output = { λ fault. Some (message_of fault) };
+
+    fn fmt<W: fmt::Write>(&self, f: &mut fmt::Formatter<W>) -> fmt::Result {
+        f.pad(self.text())
     }
 }
 
@@ -81,18 +106,12 @@ impl Fault {
 pub fn code_told(fault: Option<Fault>) -> u16
     ensures { result ≡ told_code fault }
 {
-    match fault {
-        Some(f) => f.code(),
-        None => 0,
-    }
+    fault.map_or(0, u16::from)
 }
 
 // The message of a fault, and that none was detected where there is none.
 pub fn message_told(fault: Option<Fault>) -> &'static [u8]
     ensures { result.now ≡ told_message fault }
 {
-    match fault {
-        Some(f) => f.message(),
-        None => b"NO ERROR DETECTED",
-    }
+    fault.map_or("NO ERROR DETECTED", Fault::text).as_bytes()
 }

@@ -4,20 +4,19 @@ ghost use Rattle.queue.specs.Waypoints.{positions_of, waypoints, shown};
 ghost use Rattle.std.specs.List.{slice_get};
 
 use crate::route::Route;
-use crate::slots;
 use crate::waypoint::Waypoint;
+use fixed::FixedList;
 
 impl Route {
+    // No `Default` beside it: nothing generic makes one.
     pub fn new() -> Route
         ensures { waypoints result ≡ [] }
     {
         let unused = Waypoint {
-            positions: [0; 12],
-            size: 0,
+            list: FixedList::empty(0),
         };
         Route {
-            slots: [unused; 8],
-            len: 0,
+            list: FixedList::empty(unused),
         }
     }
 
@@ -25,7 +24,7 @@ impl Route {
     pub fn add(&mut self, w: Waypoint) -> bool
         ensures { (result, waypoints self.new) ≡ added 8 (waypoints self.old) (positions_of w) }
     {
-        slots::add(&mut self.slots, &mut self.len, w)
+        self.list.push(w).is_ok()
     }
 
     // Takes the first out.
@@ -33,18 +32,18 @@ impl Route {
         ensures value { shown result ≡ slice_get (waypoints self.old) 0 }
         ensures list { waypoints self.new ≡ drop 1 (waypoints self.old) }
     {
-        slots::take(&mut self.slots, &mut self.len)
+        self.list.pop_front()
     }
 
     pub fn count(&self) -> usize
         ensures { result ≡ length (waypoints self.now) }
     {
-        slots::count(&self.slots, self.len)
+        self.list.len()
     }
 
     pub fn clear(&mut self)
         ensures { waypoints self.new ≡ [] }
     {
-        slots::clear(&mut self.slots, &mut self.len);
+        self.list.clear();
     }
 }

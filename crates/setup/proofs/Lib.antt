@@ -1,4 +1,3 @@
-pub mod Fronts
 pub mod Files
 pub mod Writes
 pub mod Backs

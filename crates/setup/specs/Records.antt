@@ -1,8 +1,8 @@
 -- A setup record: 48 bytes that say what an axis is. Assumes nothing.
-use Rattle.std.specs.Prelude.{ℕ, suc, ◌+◌, ◌*◌, ◌/◌, ◌%◌, Bool, cond, ◌&&◌, List, [], ◌∷◌, ◌++◌, take, drop, ℤ, int_le, nat_eq, nat_le, slice_index}
+use Rattle.std.specs.Prelude.{ℕ, ◌+◌, ◌*◌, ◌/◌, ◌%◌, Bool, ◌&&◌, List, [], ◌∷◌, ◌++◌, take, drop, ℤ, int_le, nat_eq, nat_le, slice_index}
 use Rattle.std.specs.Int.{w32}
 use Rattle.std.proofs.Common.{to_z, of_z}
-use Rattle.std.specs.List.{list_all}
+use Rattle.std.specs.List.{list_all, prefix_len}
 use Rattle.setup.specs.declared.record.SetupRecord.{SetupRecord}
 
 -- the four bytes from i on as a number, the lowest byte first
@@ -23,8 +23,7 @@ printable b = nat_le 32 b && nat_le b 126
 
 -- how many bytes stand before the first that is not
 abbrev pub text_length : List ℕ → ℕ
-text_length [] = 0
-text_length (b ∷ bs) = cond (printable b) (suc (text_length bs)) 0
+text_length bs = prefix_len printable bs
 
 abbrev pub all_zero : List ℕ → Bool
 all_zero bs = list_all (λ b. nat_eq b 0) bs

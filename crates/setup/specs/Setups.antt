@@ -1,6 +1,7 @@
 -- A file of setup records, one for each axis. Assumes nothing.
-use Rattle.std.specs.Prelude.{ℕ, zero, suc, ◌-◌, ◌/◌, ◌%◌, Bool, true, false, cond, ◌&&◌, List, [], ◌∷◌, ◌++◌, length, take, drop, pos, None, Ok, Err, Option, Result, ◌==◌, nat_le, nat_lt}
+use Rattle.std.specs.Prelude.{ℕ, zero, suc, ◌-◌, ◌/◌, ◌%◌, Bool, true, false, cond, ◌&&◌, List, [], ◌∷◌, ◌++◌, length, drop, pos, None, Ok, Err, Option, Result, ◌==◌, nat_le, nat_lt}
 use Rattle.std.specs.List.{list_all, slice_get}
+use Rattle.fixed.specs.Lists.{held}
 use Rattle.queue.specs.declared.refusal.Refusal.{Refusal}
 use Rattle.queue.specs.declared.refusal.Refusal.TheVariants.{RecordCount, RecordLayout}
 use Rattle.setup.specs.declared.record.SetupRecord.{SetupRecord}
@@ -8,7 +9,7 @@ use Rattle.setup.specs.declared.setup_table.Setup.{Setup}
 use Rattle.setup.specs.Records.{record_of, lawful}
 
 abbrev pub records_in : Setup → List SetupRecord
-records_in s = take s.count s.records
+records_in s = held s.list
 
 -- what stands where there is no record
 abbrev pub no_record : SetupRecord

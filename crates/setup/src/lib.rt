@@ -5,7 +5,6 @@ mod name;
 mod reading;
 mod record;
 mod setup_calls;
-mod setup_questions;
 mod setup_table;
 mod writing;
 

@@ -1,26 +1,18 @@
-ghost use Rattle.std.specs.Prelude.{◌≡◌, ◌+◌, ◌≤◌, length};
-ghost use Rattle.std.specs.Int.{w32};
-ghost use Rattle.std.proofs.Common.{to_z};
-ghost use Rattle.setup.specs.Records.{u32_at, i32_at, record_of, in_range, lawful};
-ghost use Rattle.setup.specs.Setups.{decoded, listed};
+ghost use Rattle.std.specs.Prelude.{◌≡◌, ◌+◌, ◌≤◌, [], ◌∷◌, length, slice_index};
+ghost use Rattle.setup.specs.Records.{record_of, in_range, lawful};
+ghost use Rattle.setup.specs.Setups.{count_ok, decoded, listed};
 
 use crate::name::name_ok;
 use crate::record::SetupRecord;
 use crate::setup_table::Setup;
 use queue::Refusal;
 
-fn u32_at(bytes: &[u8], at: usize) -> u32
+// The four bytes from a place on.
+fn four_at(bytes: &[u8], at: usize) -> [u8; 4]
     requires { at + 4 ≤ length bytes.now }
-    ensures { result ≡ u32_at bytes.now at }
+    ensures { result ≡ slice_index bytes.now at ∷ slice_index bytes.now (at + 1) ∷ slice_index bytes.now (at + 2) ∷ slice_index bytes.now (at + 3) ∷ [] }
 {
-    u32::from_le_bytes([bytes[at], bytes[at + 1], bytes[at + 2], bytes[at + 3]])
-}
-
-fn i32_at(bytes: &[u8], at: usize) -> i32
-    requires { at + 4 ≤ length bytes.now }
-    ensures { result ≡ i32_at bytes.now at }
-{
-    i32::from_le_bytes([bytes[at], bytes[at + 1], bytes[at + 2], bytes[at + 3]])
+    [bytes[at], bytes[at + 1], bytes[at + 2], bytes[at + 3]]
 }
 
 // What the first 48 bytes say, lawful or not.
@@ -32,17 +24,17 @@ fn read_record(bytes: &[u8]) -> SetupRecord
     name.copy_from_slice(&bytes[0..32]);
     SetupRecord {
         name,
-        max_velocity: u32_at(bytes, 32),
-        max_acceleration: u32_at(bytes, 36),
-        left: i32_at(bytes, 40),
-        right: i32_at(bytes, 44),
+        max_velocity: u32::from_le_bytes(four_at(bytes, 32)),
+        max_acceleration: u32::from_le_bytes(four_at(bytes, 36)),
+        left: i32::from_le_bytes(four_at(bytes, 40)),
+        right: i32::from_le_bytes(four_at(bytes, 44)),
     }
 }
 
 fn maximum_ok(n: u32) -> bool
     ensures { result ≡ in_range n }
 {
-    n >= 1 && n <= 2_000_000_000
+    (1..=2_000_000_000).contains(&n)
 }
 
 fn record_ok(found: &SetupRecord) -> bool
@@ -54,17 +46,23 @@ fn record_ok(found: &SetupRecord) -> bool
         && found.left <= found.right
 }
 
+// Whether a file of that many bytes has 2 to 12 whole records.
+fn count_ok(size: usize) -> bool
+    ensures { result ≡ count_ok size }
+{
+    (96..=576).contains(&size) && size % 48 == 0
+}
+
 // The setup records of a whole file.
 pub fn decode(bytes: &[u8]) -> Result<Setup, Refusal>
     ensures { listed result ≡ decoded bytes.now }
 {
-    let size = bytes.len();
-    if size < 96 || size > 576 || size % 48 != 0 {
+    if !count_ok(bytes.len()) {
         return Err(Refusal::RecordCount);
     }
     let mut setup = Setup::new();
-    for k in 0..size / 48 {
-        let found = read_record(&bytes[48 * k..]);
+    for part in bytes.chunks_exact(48) {
+        let found = read_record(part);
         if !record_ok(&found) {
             return Err(Refusal::RecordLayout);
         }

@@ -1,6 +1,6 @@
 // What a setup record says of one axis: velocities in micro-units per second, accelerations in micro-units per second
 // squared, limits in micro-units.
-#[derive(Clone, Copy)]
+#[derive(Clone, Copy, Default)]
 pub struct SetupRecord {
     // the stage name, filled up with zero bytes
     pub name: [u8; 32],

@@ -1,23 +1,17 @@
-ghost use Rattle.std.specs.Prelude.{◌≡◌, []};
-ghost use Rattle.setup.specs.Setups.{records_in, one_more};
+ghost use Rattle.std.specs.Prelude.{◌≡◌, ◌≤◌, [], length};
+ghost use Rattle.setup.specs.Setups.{records_in, one_more, nth_record};
 
 use crate::record::SetupRecord;
 use crate::setup_table::Setup;
+use fixed::FixedList;
 
 impl Setup {
+    // No `Default` beside it: nothing generic makes one.
     pub fn new() -> Setup
         ensures { records_in result ≡ [] }
     {
-        let unused = SetupRecord {
-            name: [0; 32],
-            max_velocity: 0,
-            max_acceleration: 0,
-            left: 0,
-            right: 0,
-        };
         Setup {
-            records: [unused; 12],
-            count: 0,
+            list: FixedList::empty(SetupRecord::default()),
         }
     }
 
@@ -25,11 +19,27 @@ impl Setup {
     pub fn add(&mut self, next: SetupRecord) -> bool
         ensures { (result, records_in self.new) ≡ one_more (records_in self.old) next }
     {
-        if self.count >= 12 {
-            return false;
-        }
-        self.records[self.count] = next;
-        self.count += 1;
-        true
+        self.list.push(next).is_ok()
+    }
+
+    pub fn count(&self) -> usize
+        ensures value { result ≡ length (records_in self.now) }
+        ensures few { result ≤ 12 }
+    {
+        self.list.len()
+    }
+
+    pub fn records(&self) -> &[SetupRecord]
+        ensures value { result.now ≡ records_in self.now }
+        ensures few { length result.now ≤ 12 }
+    {
+        self.list.as_slice()
+    }
+
+    // The record of an axis, counted from 1.
+    pub fn record(&self, axis: usize) -> Option<SetupRecord>
+        ensures { result ≡ nth_record axis (records_in self.now) }
+    {
+        self.list.get(axis.checked_sub(1)?)
     }
 }

@@ -7,6 +7,7 @@ ghost use Rattle.setup.specs.Encoding.{written, encoded, ReadsBack};
 use crate::record::SetupRecord;
 use crate::setup_table::Setup;
 
+// Buffer and offset stay two parameters: of two functions, one calls the other.
 fn put(out: &mut [u8], at: usize, bytes: &[u8])
     requires { at + length bytes.now ≤ length out.old }
     ensures { out.new ≡ written at bytes.now out.old }
@@ -32,9 +33,8 @@ fn put_all(out: &mut [u8], setup: &Setup)
     ensures bytes { out.new ≡ written 0 (flat_map bytes_of (records_in setup.now)) out.old }
     ensures back { ReadsBack (records_in setup.now) (take (48 * length (records_in setup.now)) out.new) }
 {
-    for k in 0..setup.count {
-        let one = setup.records[k];
-        put_record(out, 48 * k, &one);
+    for (k, one) in setup.records().iter().enumerate() {
+        put_record(out, 48 * k, one);
     }
 }
 

@@ -1,9 +1,14 @@
-use Rattle.std.proofs.Common.{map, refl, ap, ◌∙◌}
-use Rattle.std.proofs.lemmas.List.{take-replicate}
-use Rattle.groups.specs.Groups.{group_model, free_group}
-use Rattle.desk.proofs.Joining.{map_same}
+use Rattle.std.proofs.Common.{◌≡◌, ◌/◌, min, map, length, replicate, ap, ◌∙◌, arith}
+use Rattle.std.proofs.lemmas.List.{length-replicate}
+use Rattle.groups.specs.Groups.{group_model}
+use Rattle.desk.proofs.Joining.{map_replicate}
 use Rattle.desk.proofs.opening.free_groups.Goals as goal
 
 pub returns : goal.returns
 returns c =
-    record { free = λ n h. ap (λ gs. map group_model gs) (take-replicate n 6 c.free.result h) ∙ map_same group_model c.free.result free_group n c.free.ensures; room = refl }
+    let n : min (c.args.axis_count / 2) 6 ≡ c.args.axis_count / 2 = omega arith in
+    let all = c.repeated.ensures ∙ ap (λ k. replicate k c.free.result) n in
+    record {
+      free = ap (λ gs. map group_model gs) all ∙ map_replicate group_model (c.args.axis_count / 2) c.free.result ∙ ap (λ g. replicate (c.args.axis_count / 2) g) c.free.ensures;
+      size = ap length all ∙ length-replicate (c.args.axis_count / 2) c.free.result;
+    }

@@ -1,37 +1,32 @@
-use Rattle.std.proofs.Common.{◌≡◌, ◌*◌, ◌/◌, ◌<◌, ◌≤◌, length, take, drop, arith, rules}
-use Rattle.std.proofs.lemmas.List.{take_rest, take_all, length-take-le}
+use Rattle.std.proofs.Common.{◌≡◌, ◌≤◌, true, length, arith, sym, ◌∙◌}
+use Rattle.std.specs.Slice.Iter.{chunks_exact_rest}
 use Rattle.std.proofs.lemmas.Bool.Decides.{nat_tests}
-use Rattle.setup.specs.Records.{record_of, lawful}
-use Rattle.setup.specs.Setups.{records_of, records_in}
-use Rattle.setup.proofs.Fronts.{all_pass_all}
-use Rattle.setup.proofs.Files.{length_records, record_next, lawful_next, added_to}
+use Rattle.setup.specs.Setups.{count_ok, records_in}
+use Rattle.setup.proofs.Files.{read_start, read_more, read_broken, read_end}
 use Rattle.setup.proofs.reading.decode.Goals as goal
 
-pub loop-k-init : goal.loop-k-init
-loop-k-init c = search rules
+pub loop-part-init : goal.loop-part-init
+loop-part-init c = (cc, read_start (records_in c.new-setup.result) _ c.args.bytes.now c.new-setup.ensures cc)
 
 pub returns-then-not-record_ok : goal.returns-then-not-record_ok
 returns-then-not-record_ok c =
-    let e : c.read_record-found.result ≡ record_of (drop (48 * c.loop-k.k) c.args.bytes.now) = search (rules, take_rest) in
-    let s = lawful_next (length c.args.bytes.now / 48) c.loop-k.k c.args.bytes.now c.read_record-found.result c.loop-k-test.true e in
+    let step = c.in-Some.ensures.steps in
+    let bad = read_broken (records_in c.loop-part.setup) c.in-Some.part.now _ _ c.args.bytes.now c.read_record-found.result step.1.0 (step.1.1 ∙ c.loop-part.invariant.0) c.read_record-found.ensures (sym c.record_ok.ensures ∙ c.if-not-record_ok.true) c.loop-part.invariant.1 in
     grind (arith, nat_tests)
 
-pub loop-k-preserved : goal.loop-k-preserved
-loop-k-preserved c =
-    let bs = c.args.bytes.now in
-    let e : c.read_record-found.result ≡ record_of (drop (48 * c.loop-k.k) bs) = search (rules, take_rest) in
-    let s = lawful_next (length bs / 48) c.loop-k.k bs c.read_record-found.result c.loop-k-test.true e in
-    let t = record_next (length bs / 48) c.loop-k.k bs c.read_record-found.result c.loop-k-test.true e in
-    let few : c.loop-k.k < 12 = omega arith in
-    let l : length (take c.loop-k.k (records_of (length bs / 48) bs)) ≡ c.loop-k.k = search (rules, length-take-le, length_records) in (
-      added_to c.loop-k.k c.add.result (records_in c.loop-k.setup) (records_in c.add.new.self) (take c.loop-k.k (records_of (length bs / 48) bs)) _ c.read_record-found.result few l c.loop-k.invariant.0 c.add.ensures t,
-      grind (arith, nat_tests),
+pub loop-part-preserved : goal.loop-part-preserved
+loop-part-preserved c =
+    let step = c.in-Some.ensures.steps in
+    let most : length c.args.bytes.now ≤ 576 = let whole : count_ok (length c.args.bytes.now) ≡ true = cc in grind (arith, nat_tests) in (
+      step.0 ∙ c.loop-part.invariant.0,
+      read_more (records_in c.loop-part.setup) (records_in c.add.new.self) c.add.result c.in-Some.part.now _ _ c.args.bytes.now c.read_record-found.result step.1.0 (step.1.1 ∙ c.loop-part.invariant.0) most
+          c.read_record-found.ensures (sym c.record_ok.ensures ∙ c.if-not-record_ok.false) c.add.ensures c.loop-part.invariant.1,
     )
 
 pub returns : goal.returns
 returns c =
-    let bs = c.args.bytes.now in
-    let long : length (records_of (length bs / 48) bs) ≤ c.loop-k.k = search (rules, length_records) in
-    let a = all_pass_all lawful (records_of (length bs / 48) bs) c.loop-k.k long in
-    let t = take_all c.loop-k.k (records_of (length bs / 48) bs) long in
+    let step = c.in-None.ensures.steps in
+    let size = c.loop-part.invariant.0 in
+    let short = step.1.0 in
+    let all = read_end (records_in c.loop-part.setup) (chunks_exact_rest c.loop-part.part-iterator) c.args.bytes.now (omega arith) c.loop-part.invariant.1 in
     grind (arith, nat_tests)

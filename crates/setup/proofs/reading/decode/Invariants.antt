@@ -1,10 +1,8 @@
-use Rattle.std.proofs.Common.{◌≡◌, ◌/◌, length, take, drop}
-use Rattle.std.specs.List.{list_all}
-use Rattle.setup.specs.Records.{lawful}
-use Rattle.setup.specs.Setups.{records_in, records_of}
+use Rattle.std.proofs.Common.{◌≡◌}
+use Rattle.std.specs.Slice.Iter.{chunks_exact_rest, chunks_exact_size}
+use Rattle.setup.specs.Setups.{records_in}
+use Rattle.setup.proofs.Files.{Read}
 use Rattle.setup.proofs.reading.decode.Given as goal
 
-abbrev pub invariant-loop-k : goal.invariant-loop-k
-invariant-loop-k l =
-    (records_in l.setup ≡ take l.k (records_of (length l.bytes / 48) l.bytes))
-    × (list_all lawful (drop l.k (records_of (length l.bytes / 48) l.bytes)) ≡ list_all lawful (records_of (length l.bytes / 48) l.bytes))
+abbrev pub invariant-loop-part : goal.invariant-loop-part
+invariant-loop-part l = (chunks_exact_size l.part-iterator ≡ 48) × Read (records_in l.setup) (chunks_exact_rest l.part-iterator) l.bytes

@@ -1,9 +1,0 @@
-use Rattle.std.proofs.Common.{rules}
-use Rattle.std.proofs.lemmas.List.{take_at, places}
-use Rattle.queue.proofs.waypoint.Waypoint.new.Goals as goal
-
-pub invariant_of-result : goal.invariant_of-result
-invariant_of-result c = search (rules, places)
-
-pub returns : goal.returns
-returns c = search (rules, take_at)
