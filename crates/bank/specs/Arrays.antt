@@ -2,7 +2,9 @@
 use Rattle.std.specs.Prelude.{◌≡◌, ℕ, zero, suc, ◌+◌, ◌<◌, ◌≤◌, ◌⊎◌, List, [], ◌∷◌, ◌++◌, map, length, get_or, take, drop, set, replicate, Ok, Err, Result, slice_index_or, slice_set, refl}
 use Rattle.std.proofs.Common.{sym, ◌∙◌, ap, inl, inr, arith, add-one}
 use Rattle.std.specs.List.{AllByRecursion}
-use Rattle.std.proofs.lemmas.List.{length-map, length-take-le, get_or-take, get_or-map, take_all, drop_all, append-nil}
+use Rattle.std.proofs.lemmas.List.{length-map, length-take-le, get_or-map, map-set}
+use Rattle.std.proofs.lemmas.Result.{err_from_is_err_and}
+use Rattle.std.specs.Result.{IsErrAnd}
 use Rattle.std.proofs.lemmas.List.Edits.{map_over_more}
 use Rattle.drive.specs.declared.refusal.DriveRefusal.{DriveRefusal}
 use Rattle.drive.specs.declared.refusal.DriveRefusal.TheVariants.{NoSuchAxis}
@@ -78,29 +80,31 @@ module _ {X : Type 0} (m : X → Axis) (f : Change) (n : ℕ) (xs : List X) (k :
       (r, map m (take j ys)) ≡ at_axis f k (map m (take n xs))
   done_some i j x y ys r h at_i e put kept = rw (put, kept, at_i.1, add-one) (sym (at_here m f n i xs x y r at_i.0 h e))
 
+-- ---- as the functions have them
+
+-- a refusal that is passed up is that of the list
+pub asked_err : {X R : Type 0} (m : X → Axis) (f : Axis → R) (n : ℕ) (xs : List X) (k : ℕ) (r : Result R DriveRefusal) (e : DriveRefusal) →
+    n ≤ length xs → (e ≡ NoSuchAxis) × ((k < 1) ⊎ (n < k)) → IsErrAnd r (λ y. y ≡ e) → r ≡ ask_axis f k (map m (take n xs))
+asked_err m f n xs k r e h out is =
+    let p = err_from_is_err_and r is in
+    rw (p.1, p.2, out.0) (told_none m f n xs k h out.1)
+
+pub changed_err : {X : Type 0} (m : X → Axis) (f : Change) (n : ℕ) (xs : List X) (k : ℕ) (r : Result Unit DriveRefusal) (e : DriveRefusal) →
+    n ≤ length xs → (e ≡ NoSuchAxis) × ((k < 1) ⊎ (n < k)) → IsErrAnd r (λ y. y ≡ e) → (r, map m (take n xs)) ≡ at_axis f k (map m (take n xs))
+changed_err m f n xs k r e h out is =
+    let p = err_from_is_err_and r is in
+    rw (p.1, p.2, out.0) (done_none m f n xs k h out.1)
+
 -- ---- a tick
 
-put_map : {X Y : Type 0} (m : X → Y) (n i : ℕ) (xs : List X) (y : X) → i < n → map m (take n (slice_set xs i y)) ≡ slice_set (map m (take n xs)) i (m y)
-put_map m zero i xs y l = absurd (omega arith)
-put_map m (suc n) i [] y l = refl
-put_map m (suc n) zero (x ∷ xs) y l = refl
-put_map m (suc n) (suc i) (x ∷ xs) y l = ap (λ zs. m x ∷ zs) (put_map m n i xs y (omega arith))
-
 -- one axis more has ticked
-pub tick_more : {X : Type 0} (m : X → Axis) (f : Axis → Axis) (n i : ℕ) (old xs : List X) (x y : X) → i < n → n ≤ length xs → n ≤ length old →
-    map m (take n xs) ≡ map f (take i (map m (take n old))) ++ drop i (map m (take n old)) → m y ≡ f (m (slice_index_or xs i x)) →
-    map m (take n (slice_set xs i y)) ≡ map f (take (i + 1) (map m (take n old))) ++ drop (i + 1) (map m (take n old))
-tick_more m f n i old xs x y l h h' inv e =
-    let z = get_or xs i x in
-    let is : m z ≡ get_or (map m (take n xs)) i (m z) = sym (get_or-map m (take n xs) i x (m z) (rw length-take-le l) ∙ ap m (get_or-take n xs i x l)) in
-    let lt : i < length (map m (take n old)) = rw (length-map, length-take-le) l in
-    put_map m n i xs y l ∙ ap (set (map m (take n xs)) i) e ∙ map_over_more f (map m (take n old)) (map m (take n xs)) i (m z) lt inv is
-
--- all have ticked
-pub tick_all : {X : Type 0} (m : X → Axis) (f : Axis → Axis) (n i : ℕ) (old : List X) → n ≤ i → n ≤ length old → map f (take i (map m (take n old))) ++ drop i (map m (take n old)) ≡ map f (map m (take n old))
-tick_all m f n i old h l =
-    let k : length (map m (take n old)) ≤ i = rw (length-map, length-take-le) h in
-    rw (take_all i (map m (take n old)) k, drop_all i (map m (take n old)) k, append-nil)
+pub tick_more : {X : Type 0} (m : X → Axis) (f : Axis → Axis) (i : ℕ) (old xs : List X) (x y : X) → i < length xs → length xs ≡ length old →
+    map m xs ≡ map f (take i (map m old)) ++ drop i (map m old) → m y ≡ f (m (slice_index_or xs i x)) →
+    map m (slice_set xs i y) ≡ map f (take (i + 1) (map m old)) ++ drop (i + 1) (map m old)
+tick_more m f i old xs x y l same inv e =
+    let is : m (get_or xs i x) ≡ get_or (map m xs) i (m (get_or xs i x)) = sym (get_or-map m xs i x (m (get_or xs i x)) l) in
+    let lt : i < length (map m old) = rw length-map (omega arith) in
+    map-set m xs i y ∙ ap (set (map m xs) i) e ∙ map_over_more f (map m old) (map m xs) i (m (get_or xs i x)) lt inv is
 
 -- ---- a bank of equal axes
 

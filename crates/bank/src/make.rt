@@ -14,7 +14,7 @@ impl Bank {
     fn count_taken(count: usize) -> usize
         ensures { result ≡ nearest 2 12 count }
     {
-        count.max(2).min(12)
+        count.clamp(2, 12)
     }
 
     // The drive that has so many copies of one axis.

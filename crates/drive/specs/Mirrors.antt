@@ -1,6 +1,6 @@
 -- What a mirrored axis keeps of a drive's laws, and how questions and changes go through it.
 use Rattle.std.specs.Prelude.{◌≡◌, ℕ, zero, suc, ◌^◌, ◌<◌, ◌≤◌, ◌⊎◌, List, [], ◌∷◌, length, ℤ, pos, negsuc, neg_ℤ, Ok, Err, Result, ◌==◌, ◌≢◌, unsigned_abs, refl}
-use Rattle.std.proofs.Common.{sym, ◌∙◌, ap, inl, inr, ⊎_elim, arith}
+use Rattle.std.proofs.Common.{sym, ◌∙◌, ap, inl, inr, ⊎_elim, arith, w32, SFits}
 use Rattle.std.proofs.Math.IntN.{neg_ℤ-neg_ℤ}
 use Rattle.std.specs.Int.Signed.{mag}
 use Rattle.std.specs.List.{AllByRecursion}
@@ -10,7 +10,7 @@ use Rattle.std.proofs.lemmas.Bool.Decides.{nat_tests}
 use Rattle.std.specs.Int.{saturate_to_bits}
 use Rattle.drive.specs.declared.profile.Profile.{Profile}
 use Rattle.drive.specs.declared.refusal.DriveRefusal.{DriveRefusal}
-use Rattle.drive.specs.Model.{Axis, Fair, SoundAxis, Sound, Change, ask, ask_axis, at, at_axis, same, start_axis, set_position_axis, tick_axis, tick_axes}
+use Rattle.drive.specs.Model.{Axis, Fair, SoundAxis, Sound, Change, ask, ask_axis, at, at_axis, same, power_on_axis, power_off_axis, start_axis, stop_axis, set_position_axis, tick_axis, tick_axes}
 use Rattle.drive.specs.Mirror.{mirror, mirror_at, mirrored, facing, facing_answer}
 
 -- ---- numbers
@@ -86,11 +86,17 @@ module _ {R : Type 0} (f : Axis → R) (kept : (a : Axis) → f (mirror a) ≡ f
   ask_kept (suc i) zero (a ∷ xs) = refl
   ask_kept (suc i) (suc j) (a ∷ xs) = ask_kept i j xs
 
-  pub told_kept : (n k : ℕ) (xs : List Axis) → ask_axis f n (mirrored k xs) ≡ ask_axis f n xs
+  told_kept : (n k : ℕ) (xs : List Axis) → ask_axis f n (mirrored k xs) ≡ ask_axis f n xs
   told_kept zero zero xs = refl
   told_kept zero (suc j) xs = refl
   told_kept (suc i) zero xs = refl
   told_kept (suc i) (suc j) xs = ask_kept i j xs
+
+pub reach_kept : (n k : ℕ) (xs : List Axis) → ask_axis (λ a. a.reach) n (mirrored k xs) ≡ ask_axis (λ a. a.reach) n xs
+reach_kept = told_kept (λ a. a.reach) (λ a. refl)
+
+pub powered_kept : (n k : ℕ) (xs : List Axis) → ask_axis (λ a. a.powered) n (mirrored k xs) ≡ ask_axis (λ a. a.powered) n xs
+powered_kept = told_kept (λ a. a.powered) (λ a. refl)
 
 -- a position that is told lies within every reach
 module _ (f : Axis → ℤ) (within : (a : Axis) → SoundAxis a → unsigned_abs (f a) ≤ 2000000000) where
@@ -136,12 +142,18 @@ module _ (f : Axis → ℤ) (turned : (a : Axis) → f (mirror a) ≡ neg_ℤ (f
   told_other (suc i) (suc j) xs ne = ask_other i j xs (λ e. ne (ap suc e))
 
   -- what is told of an axis of the mirrored list is what the list tells, faced
-  pub told_faced : (n k : ℕ) (xs : List Axis) → ((a : Axis) → SoundAxis a → unsigned_abs (f a) ≤ 2000000000) → Sound xs → facing_answer k n (ask_axis f n xs) ≡ ask_axis f n (mirrored k xs)
+  told_faced : (n k : ℕ) (xs : List Axis) → ((a : Axis) → SoundAxis a → unsigned_abs (f a) ≤ 2000000000) → Sound xs → facing_answer k n (ask_axis f n xs) ≡ ask_axis f n (mirrored k xs)
   told_faced n k xs within s =
       ⊎_elim
       (λ same-axis. rw same-axis (faced_same k (ask_axis f k xs) (λ p e. told_small f within k xs p s e) ∙ sym (told_same k xs)))
       (λ ne. faced_other n k (ask_axis f n xs) ne ∙ sym (told_other n k xs ne))
       (cases_eq n k)
+
+pub position_faced : (n k : ℕ) (xs : List Axis) → Sound xs → facing_answer k n (ask_axis (λ a. a.position) n xs) ≡ ask_axis (λ a. a.position) n (mirrored k xs)
+position_faced n k xs s = told_faced (λ a. a.position) (λ a. refl) n k xs (λ a s. omega arith) s
+
+pub target_faced : (n k : ℕ) (xs : List Axis) → Sound xs → facing_answer k n (ask_axis (λ a. a.target) n xs) ≡ ask_axis (λ a. a.target) n (mirrored k xs)
+target_faced n k xs s = told_faced (λ a. a.target) (λ a. refl) n k xs (λ a s. omega arith) s
 
 -- ---- changes
 
@@ -161,11 +173,20 @@ module _ (f : Change) (commutes : (a : Axis) → f (mirror a) ≡ turned_axis (f
   at_through (suc i) zero (a ∷ xs) = refl
   at_through (suc i) (suc j) (a ∷ xs) = ap (λ r. (r.0, a ∷ r.1)) (at_through i j xs)
 
-  pub change_through : (n k : ℕ) (xs : List Axis) → at_axis f n (mirrored k xs) ≡ turned_all k (at_axis f n xs)
+  change_through : (n k : ℕ) (xs : List Axis) → at_axis f n (mirrored k xs) ≡ turned_all k (at_axis f n xs)
   change_through zero zero xs = refl
   change_through zero (suc j) xs = refl
   change_through (suc i) zero xs = refl
   change_through (suc i) (suc j) xs = at_through i j xs
+
+pub power_on_through : (n k : ℕ) (xs : List Axis) → at_axis power_on_axis n (mirrored k xs) ≡ ((at_axis power_on_axis n xs).0, mirrored k (at_axis power_on_axis n xs).1)
+power_on_through = change_through power_on_axis (λ a. refl)
+
+pub power_off_through : (n k : ℕ) (xs : List Axis) → at_axis power_off_axis n (mirrored k xs) ≡ ((at_axis power_off_axis n xs).0, mirrored k (at_axis power_off_axis n xs).1)
+power_off_through = change_through power_off_axis (λ a. refl)
+
+pub stop_through : (n k : ℕ) (xs : List Axis) → at_axis stop_axis n (mirrored k xs) ≡ ((at_axis stop_axis n xs).0, mirrored k (at_axis stop_axis n xs).1)
+stop_through = change_through stop_axis (λ a. refl)
 
 -- u is the position t negated, or both are past every reach
 abbrev Opposite : ℤ → ℤ → Type 0
@@ -212,26 +233,26 @@ module _ (f : ℤ → Change) (commutes : (t u : ℤ) (a : Axis) → Opposite t 
       rw e (change_other t n k xs ne))
       (cases_eq n k)
 
-  -- what the drive below was told, seen from above
-  pub call_faced : (t u : ℤ) (n k j : ℕ) (r : Result Unit DriveRefusal) (xs ys : List Axis) → mag t < 2 ^ 31 → Sound xs → u ≡ t → j ≡ k → (r, ys) ≡ at_axis (f (facing k n u)) n xs →
-      (r, mirrored j ys) ≡ at_axis (f t) n (mirrored k xs)
-  call_faced t u n k j r xs ys fits s is kept told =
-      rw kept (ap (λ q. (q.0, mirrored k q.1)) (told ∙ ap (λ z. at_axis (f (facing k n z)) n xs) is) ∙ sym (change_faced t n k xs fits s))
-
-pub start_faced : (q : Profile) (t u : ℤ) (a : Axis) → Opposite t u → SoundAxis a → start_axis t q (mirror a) ≡ turned_axis (start_axis u q a)
+start_faced : (q : Profile) (t u : ℤ) (a : Axis) → Opposite t u → SoundAxis a → start_axis t q (mirror a) ≡ turned_axis (start_axis u q a)
 start_faced q t u a (inl e) s =
     let n : unsigned_abs u ≡ unsigned_abs t = ap unsigned_abs e ∙ nat_abs_neg t in
     let m : neg_ℤ u ≡ t = ap neg_ℤ e ∙ neg_ℤ-neg_ℤ t in
     grind (arith, nat_tests)
 start_faced q t u a (inr h) s = grind (arith, nat_tests)
 
-pub set_position_faced : (t u : ℤ) (a : Axis) → Opposite t u → SoundAxis a → set_position_axis t (mirror a) ≡ turned_axis (set_position_axis u a)
+set_position_faced : (t u : ℤ) (a : Axis) → Opposite t u → SoundAxis a → set_position_axis t (mirror a) ≡ turned_axis (set_position_axis u a)
 set_position_faced t u a (inl e) s =
     let n : unsigned_abs u ≡ unsigned_abs t = ap unsigned_abs e ∙ nat_abs_neg t in
     let m : neg_ℤ u ≡ t = ap neg_ℤ e ∙ neg_ℤ-neg_ℤ t in
     let k = same_neg a.position a.target in
     grind (arith, nat_tests)
 set_position_faced t u a (inr h) s = let k = same_neg a.position a.target in grind (arith, nat_tests)
+
+pub start_through : (t : ℤ) (q : Profile) (n k : ℕ) (xs : List Axis) → SFits w32 t → Sound xs → at_axis (start_axis t q) n (mirrored k xs) ≡ turned_all k (at_axis (start_axis (facing k n t) q) n xs)
+start_through t q n k xs fits s = change_faced (λ t. start_axis t q) (start_faced q) t n k xs fits.sfits s
+
+pub set_position_through : (t : ℤ) (n k : ℕ) (xs : List Axis) → SFits w32 t → Sound xs → at_axis (set_position_axis t) n (mirrored k xs) ≡ turned_all k (at_axis (set_position_axis (facing k n t)) n xs)
+set_position_through t n k xs fits s = change_faced set_position_axis set_position_faced t n k xs fits.sfits s
 
 -- ---- a tick
 

@@ -26,12 +26,12 @@ pub fn settle<D: Drive>(drive: &mut D, axis: usize, limit: u32) -> Result<u32, D
     ensures value { (result, D.Drive.axes drive.new) ≡ settled axis limit (D.Drive.axes drive.old) }
     ensures arrives { Arrives axis limit (D.Drive.axes drive.old) result (D.Drive.axes drive.new) }
 {
-    let mut resting = at_rest(drive, axis)?;
-    let mut ticks = 0;
-    while !resting && ticks < limit {
+    for ticks in 0..limit {
+        if at_rest(drive, axis)? {
+            return Ok(ticks);
+        }
         drive.tick();
-        ticks += 1;
-        resting = at_rest(drive, axis)?;
     }
-    Ok(ticks)
+    at_rest(drive, axis)?;
+    Ok(limit)
 }

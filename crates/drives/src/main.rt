@@ -7,7 +7,7 @@ mod tour;
 mod visit;
 
 use bank::Bank;
-use drive::{Drive, DriveRefusal, Reversed};
+use drive::{Drive, Reversed};
 use refusals::show_refusals;
 use stage::Ease;
 use std::io;
@@ -17,26 +17,22 @@ const REACH: u32 = 2_000_000_000;
 
 // The easing drives: a stride and a share in range, and one of each that acts as 1.
 fn show_easing(rt: &impl Print) -> io::Result<()> {
-    show_tour(
-        rt,
-        "easing by a stride of 250000",
-        &mut Bank::easing(3, REACH, Ease::Stride(250_000.0)),
-    )?;
-    show_tour(
-        rt,
-        "easing by a stride of 0.5, which acts as 1",
-        &mut Bank::easing(3, REACH, Ease::Stride(0.5)),
-    )?;
-    show_tour(
-        rt,
-        "easing by a share of 0.1",
-        &mut Bank::easing(3, REACH, Ease::Share(0.1)),
-    )?;
-    show_tour(
-        rt,
-        "easing by a share of 1.5, which acts as 1",
-        &mut Bank::easing(3, REACH, Ease::Share(1.5)),
-    )
+    let drives = [
+        ("easing by a stride of 250000", Ease::Stride(250_000.0)),
+        (
+            "easing by a stride of 0.5, which acts as 1",
+            Ease::Stride(0.5),
+        ),
+        ("easing by a share of 0.1", Ease::Share(0.1)),
+        (
+            "easing by a share of 1.5, which acts as 1",
+            Ease::Share(1.5),
+        ),
+    ];
+    for (name, ease) in drives {
+        show_tour(rt, name, &mut Bank::easing(3, REACH, ease))?;
+    }
+    Ok(())
 }
 
 // The position of an axis, seen from here and by the drive below.
@@ -67,7 +63,7 @@ fn show_made(rt: &impl Print, count: usize, reach: u32) -> io::Result<()> {
             "count {count}, reach {reach}: {} axes of reach {taken}",
             made.axis_count()
         ),
-        Err(refusal) => println!(rt; "count {count}, reach {reach}: {}", refusal.word()),
+        Err(refusal) => println!(rt; "count {count}, reach {reach}: {refusal}"),
     }
 }
 
@@ -77,10 +73,9 @@ fn main(rt: HostRuntime) -> io::Result<()> {
     show_easing(&rt)?;
     show_reversed(&rt)?;
     println!(rt; "made")?;
-    show_made(&rt, 1, 0)?;
-    show_made(&rt, 2, 1)?;
-    show_made(&rt, 12, 2_000_000_000)?;
-    show_made(&rt, 13, 4_000_000_000)?;
+    for (count, reach) in [(1, 0), (2, 1), (12, 2_000_000_000), (13, 4_000_000_000)] {
+        show_made(&rt, count, reach)?;
+    }
     println!(rt; "")?;
     show_refusals(&rt, &mut Bank::stepping(3, 1_000))
 }

@@ -10,7 +10,7 @@ const PROFILE: Profile = Profile {
 fn show_answer(rt: &impl Print, call: &str, answer: Result<(), DriveRefusal>) -> io::Result<()> {
     match answer {
         Ok(()) => println!(rt; "{call}: done"),
-        Err(refusal) => println!(rt; "{call}: refused, {}", refusal.word()),
+        Err(refusal) => println!(rt; "{call}: refused, {refusal}"),
     }
 }
 

@@ -1,7 +1,6 @@
-use crate::account::Visit;
 use crate::visit::visit;
-use drive::{Drive, DriveRefusal, Profile};
-use std::io;
+use drive::{Drive, Profile};
+use std::{fmt, io};
 
 // One leg of the tour: an axis is sent to a target at a velocity, for so many ticks at most.
 #[derive(Clone, Copy)]
@@ -63,24 +62,16 @@ const TOUR: [Leg; 8] = [
     },
 ];
 
-fn show_leg(rt: &impl Print, leg: Leg, res: Result<Visit, DriveRefusal>) -> io::Result<()> {
-    let Leg {
-        axis,
-        velocity,
-        target,
-        limit,
-    } = leg;
-    print!(rt; "{axis:>4} {velocity:>11} {target:>12} {limit:>6}")?;
-    match res {
-        Ok(
-            Visit {
-                from,
-                position,
-                ticks,
-                way,
-            },
-        ) => println!(rt; " {from:>12} {position:>12} {ticks:>6} {way:>11}"),
-        Err(refusal) => println!(rt; " refused: {}", refusal.word()),
+// The first columns of a row of the tour.
+impl fmt::Display for Leg {
+    fn fmt<W: fmt::Write>(&self, f: &mut fmt::Formatter<W>) -> fmt::Result {
+        let Leg {
+            axis,
+            velocity,
+            target,
+            limit,
+        } = *self;
+        write!(f, "{axis:>4} {velocity:>11} {target:>12} {limit:>6}")
     }
 }
 
@@ -99,8 +90,10 @@ pub fn show_tour<D: Drive>(rt: &impl Print, name: &str, drive: &mut D) -> io::Re
             acceleration: 50_000_000,
             deceleration: 50_000_000,
         };
-        let result = visit(drive, leg.axis, leg.target, profile, leg.limit);
-        show_leg(rt, leg, result)?;
+        match visit(drive, leg.axis, leg.target, profile, leg.limit) {
+            Ok(visit) => println!(rt; "{leg} {visit}")?,
+            Err(refusal) => println!(rt; "{leg} refused: {refusal}")?,
+        }
     }
     println!(rt; "")
 }

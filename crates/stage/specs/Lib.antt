@@ -1,8 +1,8 @@
 pub mod Stages
 pub mod Travel
 pub mod Easing
-pub mod Whole
-pub mod Eased
+pub mod Rules
+pub mod Axes
 pub mod Kinds
 pub mod Sounds
 pub mod Steps

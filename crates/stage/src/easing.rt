@@ -1,9 +1,10 @@
 ghost use Rattle.std.specs.Prelude.{◌≡◌};
-ghost use Rattle.drive.specs.Model.{Fair};
-ghost use Rattle.stage.specs.Easing.{asked, eased, share_taken, stride_taken};
+ghost use Rattle.stage.specs.Easing.{asked, easing_travel, share_taken, stride_taken};
+ghost use Rattle.stage.specs.Sounds.{ease_fair};
 
 use crate::ease::Ease;
-use crate::travel::toward;
+use crate::travel::{Travel, toward};
+use drive::Profile;
 use std::num::saturating_f64_to_u32;
 
 // A stride that is whole from 1 to 2,000,000,000; any other acts as 1.
@@ -39,12 +40,14 @@ impl Ease {
             Ease::Share(share) => saturating_f64_to_u32(left as f64 * share_taken(share)),
         }
     }
+}
 
-    // Where a tick takes an axis with this setting.
-    pub fn travelled(self, position: i32, target: i32) -> i32
-        ensures value { result ≡ eased self position target }
-        ensures fair { Fair position result target }
-    {
+impl Travel for Ease {
+    ghost travel = { easing_travel };
+
+    ghost fair = { ease_fair };
+
+    fn travelled(self, position: i32, target: i32, _profile: Profile) -> i32 {
         toward(position, target, self.asked(target.abs_diff(position)))
     }
 }

@@ -1,7 +1,6 @@
-use crate::easing_axis::EasingAxis;
-use crate::whole::WholeAxis;
+use crate::axis::{EasingAxis, WholeAxis};
 
-// An axis of any kind.
+// An axis of any kind. An enum, since the kind of a drive is chosen when the program runs.
 #[derive(Clone, Copy)]
 pub enum AxisKind {
     Whole(WholeAxis),

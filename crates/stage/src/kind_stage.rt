@@ -6,22 +6,6 @@ use crate::stage::Stage;
 use crate::state::AxisState;
 use drive::{DriveRefusal, Profile};
 
-// What a call answers, made of the axis of whichever kind it is.
-macro_rules! change {
-    ($kind:expr, $axis:ident, $call:expr) => {
-        match $kind {
-            AxisKind::Whole(mut $axis) => {
-                let answer = $call;
-                (answer, AxisKind::Whole($axis))
-            }
-            AxisKind::Easing(mut $axis) => {
-                let answer = $call;
-                (answer, AxisKind::Easing($axis))
-            }
-        }
-    };
-}
-
 impl Stage for AxisKind {
     ghost axis = { kind_axis };
 
@@ -35,37 +19,44 @@ impl Stage for AxisKind {
     }
 
     fn power_on(&mut self) -> Result<(), DriveRefusal> {
-        let (answer, after) = change!(*self, axis, axis.power_on());
-        *self = after;
-        answer
+        match self {
+            AxisKind::Whole(axis) => axis.power_on(),
+            AxisKind::Easing(axis) => axis.power_on(),
+        }
     }
 
     fn power_off(&mut self) -> Result<(), DriveRefusal> {
-        let (answer, after) = change!(*self, axis, axis.power_off());
-        *self = after;
-        answer
+        match self {
+            AxisKind::Whole(axis) => axis.power_off(),
+            AxisKind::Easing(axis) => axis.power_off(),
+        }
     }
 
     fn start(&mut self, target: i32, profile: Profile) -> Result<(), DriveRefusal> {
-        let (answer, after) = change!(*self, axis, axis.start(target, profile));
-        *self = after;
-        answer
+        match self {
+            AxisKind::Whole(axis) => axis.start(target, profile),
+            AxisKind::Easing(axis) => axis.start(target, profile),
+        }
     }
 
     fn stop(&mut self) -> Result<(), DriveRefusal> {
-        let (answer, after) = change!(*self, axis, axis.stop());
-        *self = after;
-        answer
+        match self {
+            AxisKind::Whole(axis) => axis.stop(),
+            AxisKind::Easing(axis) => axis.stop(),
+        }
     }
 
     fn set_position(&mut self, position: i32) -> Result<(), DriveRefusal> {
-        let (answer, after) = change!(*self, axis, axis.set_position(position));
-        *self = after;
-        answer
+        match self {
+            AxisKind::Whole(axis) => axis.set_position(position),
+            AxisKind::Easing(axis) => axis.set_position(position),
+        }
     }
 
     fn tick(&mut self) {
-        let ((), after) = change!(*self, axis, axis.tick());
-        *self = after;
+        match self {
+            AxisKind::Whole(axis) => axis.tick(),
+            AxisKind::Easing(axis) => axis.tick(),
+        }
     }
 }
