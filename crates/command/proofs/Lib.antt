@@ -1,6 +1,4 @@
-pub mod Blanks
 pub mod Parted
-pub mod Turns
 pub mod Least
 pub mod Naming
 pub mod Placing

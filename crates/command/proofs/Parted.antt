@@ -1,12 +1,8 @@
 -- Parts of a line, as they are read.
-use Rattle.std.proofs.Common.{◌≡◌, ℕ, suc, ◌+◌, ◌-◌, ◌<◌, ◌≤◌, true, false, cond, List, [], ◌∷◌, length, take, drop, sym, refl, ap, ◌∙◌, one-add, arith}
+use Rattle.std.proofs.Common.{◌≡◌, ℕ, suc, ◌+◌, ◌<◌, ◌≤◌, true, false, cond, ltb, List, [], ◌∷◌, length, take, drop, Some, None, sym, refl, ap, ◌∙◌, one-add, arith}
 use Rattle.std.specs.List.{prefix_len}
-use Rattle.std.proofs.lemmas.List.{length-drop, drop-drop, take_rest}
-use Rattle.command.specs.Lines.{blank, apart, trimmed, bare, up_to, begun, later, parts}
-
--- a part that is trimmed
-pub bare_is : {n : ℕ} {bs : List ℕ} (c : ℕ) (xs : List ℕ) → n ≡ prefix_len blank xs → bs ≡ trimmed xs → (c + n, bs) ≡ bare (c, xs)
-bare_is c xs ne be = (λ i. (c + ne i, be i))
+use Rattle.std.proofs.lemmas.Bool.{cond_both, ltb-true, ltb-false}
+use Rattle.command.specs.Lines.{apart, front, past, behind, up_to, begun, later, parts, parts_left}
 
 pub up_to_is : (s : ℕ) (xs : List ℕ) → up_to s xs ≡ take (prefix_len (apart s) xs) xs
 up_to_is s [] = refl
@@ -43,15 +39,9 @@ parts_more s c n xs e h =
 pub parts_last : (s c n : ℕ) (xs : List ℕ) → n ≡ prefix_len (apart s) xs → length xs ≤ n → parts s c xs ≡ (c, take n xs) ∷ []
 parts_last s c n xs e h = (λ i. (c, up_to_is s xs i) ∷ later_none s c xs (omega arith) i) ∙ ap (λ k. (c, take k xs) ∷ []) (sym e)
 
--- the same by what stands before the separator, and behind those bytes
-pub cut_more : (s c n : ℕ) (xs bs after : List ℕ) → n ≡ prefix_len (apart s) xs → bs ≡ take n xs → after ≡ drop n xs → 0 < length after → parts s c xs ≡ (c, bs) ∷ parts s (c + (n + 1)) (take (length after - 1) (drop 1 after))
-cut_more s c n xs bs after e be ae h =
-    let left = ap length ae ∙ length-drop n xs in
-    let on : c + n + 1 ≡ c + (n + 1) = omega arith in
-    let rest : drop (n + 1) xs ≡ take (length after - 1) (drop 1 after) = sym (drop-drop 1 n xs) ∙ ap (drop 1) (sym ae) ∙ sym (take_rest after 1) in
-    parts_more s c n xs e (omega arith) ∙ (λ i. (c, sym be i) ∷ parts s (on i) (rest i))
-
-pub cut_last : (s c n : ℕ) (xs bs after : List ℕ) → n ≡ prefix_len (apart s) xs → bs ≡ take n xs → after ≡ drop n xs → length after ≡ 0 → parts s c xs ≡ (c, bs) ∷ []
-cut_last s c n xs bs after e be ae z =
-    let left = ap length ae ∙ length-drop n xs in
-    parts_last s c n xs e (omega arith) ∙ (λ i. (c, sym be i) ∷ [])
+-- the first part, and the parts of what stands behind it
+pub parts_cut : (s c n : ℕ) (xs : List ℕ) → n ≡ prefix_len (apart s) xs → parts s c xs ≡ front n (c, xs) ∷ parts_left s (behind n (c, xs))
+parts_cut s c n xs e =
+    cond_both (ltb n (length xs)) (Some (past (n + 1) (c, xs))) None (λ o. parts s c xs ≡ front n (c, xs) ∷ parts_left s o)
+    (λ t. let on : c + n + 1 ≡ c + (n + 1) = omega arith in parts_more s c n xs e (ltb-true n (length xs) t) ∙ ap (λ k. (c, take n xs) ∷ parts s k (drop (n + 1) xs)) on)
+    (λ t. parts_last s c n xs e (ltb-false n (length xs) t))

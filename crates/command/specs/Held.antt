@@ -1,8 +1,32 @@
--- How much is left to read.
+-- What is left to read.
 use Rattle.std.specs.Prelude.{ℕ, ◌+◌, List, length, Some, None, Option}
-use Rattle.std.specs.Borrow.{Bor}
+use Rattle.std.specs.Option.{option_map}
+use Rattle.command.specs.Lines.{Part, parts_left}
+use Rattle.command.specs.declared.text.Text.{Text}
+use Rattle.command.specs.declared.parts.Parts.{Parts}
 
--- nothing, or the bytes and one more: a part that is blank is still to come
-abbrev pub left_of : Option (Bor (List ℕ)) → ℕ
-left_of None = 0
-left_of (Some x) = length x.now + 1
+-- a part of a line
+abbrev pub seen_text : Text → Part
+seen_text t = (t.column, t.bytes.now)
+
+-- the parts of a text that is left, between separators s
+abbrev pub parts_in : ℕ → Option Text → List Part
+parts_in s o = parts_left s (option_map seen_text o)
+
+-- the column behind what is left; 0 where nothing is left
+abbrev pub end_behind : Option Text → ℕ
+end_behind None = 0
+end_behind (Some t) = t.column + length t.bytes.now
+
+-- the bytes that are left and one more, since a part that is blank is still to come; 0 where nothing is left
+abbrev pub size_left : Option Text → ℕ
+size_left None = 0
+size_left (Some t) = length t.bytes.now + 1
+
+abbrev pub left_of : {s : ℕ} → Parts s → ℕ
+left_of p = size_left p.rest
+
+-- the column behind what is left, and one more; 0 where nothing is left
+abbrev pub limit_behind : Option Text → ℕ
+limit_behind None = 0
+limit_behind (Some t) = t.column + length t.bytes.now + 1

@@ -2,7 +2,7 @@
 use Rattle.std.specs.Prelude.{◌≡◌, ℕ, ◌+◌, ◌-◌, ◌≤◌, false, List, [], ◌∷◌, ◌++◌, length, take, drop, Some, None, Option, slice_index}
 use Rattle.std.specs.List.{AllByRecursion}
 use Rattle.command.specs.Lines.{blank}
-use Rattle.command.specs.Commands.{Field, Command, commands_of}
+use Rattle.command.specs.Commands.{Field, Command, least_size, commands_of}
 
 -- the bytes are the line's own from the column on
 pub record Stands (line : List ℕ) (column : ℕ) (bytes : List ℕ) : Type 0 where
@@ -29,3 +29,7 @@ pub record Placed (line : List ℕ) (c : Command) : Type 0 where
 -- every command of the line is placed
 abbrev pub CommandsPlaced : List ℕ → Type 0
 CommandsPlaced line = AllByRecursion (λ c. Placed line c) (commands_of line)
+
+-- the fewest bytes that a command takes of a line, with the separator behind it
+abbrev pub taken : Command → ℕ
+taken c = least_size c + 1

@@ -1,6 +1,6 @@
-pub mod Held
 pub mod Lines
+pub mod Held
 pub mod Mnemonics
 pub mod Commands
-pub mod Views
 pub mod Laws
+pub mod Views

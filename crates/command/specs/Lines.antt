@@ -26,9 +26,17 @@ trimmed xs = take (length (drop (prefix_len blank xs) xs) - suffix_len blank (dr
 abbrev pub bare : Part → Part
 bare p = (p.0 + prefix_len blank p.1, trimmed p.1)
 
+-- the first n bytes of a part
+abbrev pub front : ℕ → Part → Part
+front n p = (p.0, take n p.1)
+
 -- a part without its first n bytes
 abbrev pub past : ℕ → Part → Part
 past n p = (p.0 + n, drop n p.1)
+
+-- what follows the byte n of a part, if there is one
+abbrev pub behind : ℕ → Part → Option Part
+behind n p = cond (nat_lt n (length p.1)) (Some (past (n + 1) p)) None
 
 -- the bytes up to the first separator s
 abbrev pub up_to : ℕ → List ℕ → List ℕ
@@ -47,3 +55,8 @@ later s c (x ∷ xs) = begun (apart s x) (c + 1, up_to s xs) (later s (c + 1) xs
 -- the parts between separators; c is the column of the first byte
 abbrev pub parts : ℕ → ℕ → List ℕ → List Part
 parts s c xs = (c, up_to s xs) ∷ later s c xs
+
+-- the parts of what is left, if anything is
+abbrev pub parts_left : ℕ → Option Part → List Part
+parts_left s None = []
+parts_left s (Some p) = parts s p.0 p.1

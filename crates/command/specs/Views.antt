@@ -1,25 +1,20 @@
 -- What the reader's values mean.
-use Rattle.std.specs.Prelude.{ℕ, ◌+◌, ◌^◌, Bool, cond, List, [], ◌∷◌, length, Some, None, Option, ◌==◌, nat_le}
-use Rattle.std.specs.Borrow.{Bor}
+use Rattle.std.specs.Prelude.{ℕ, ◌+◌, ◌^◌, Bool, List, [], ◌∷◌, map, length, Some, None, Option, nat_le}
 use Rattle.std.specs.Option.{option_map}
-use Rattle.command.specs.Held.{left_of}
-use Rattle.command.specs.Lines.{Part}
-use Rattle.command.specs.Commands.{Field, field, is_prefix, is_mnemonic, is_parameter, is_question, Command, question_of, parameters_of, parameters_from, commands_from}
+use Rattle.command.specs.Held.{seen_text, parts_in, left_of, end_behind, limit_behind}
+use Rattle.command.specs.Lines.{Part, bare}
+use Rattle.command.specs.Commands.{Field, field, is_prefix, is_mnemonic, is_parameter, is_question, Command, question_of, parameters_of, all_commands}
 use Rattle.command.specs.declared.text.Text.{Text}
 use Rattle.command.specs.declared.text.Field as lent
 use Rattle.command.specs.declared.text.Field.TheVariants.{Prefix, Mnemonic, Parameter, Question}
 use Rattle.command.specs.declared.line.Line.{Line}
-use Rattle.command.specs.declared.command.Command as taken
+use Rattle.command.specs.declared.command.Command as lent_command
 use Rattle.command.specs.declared.commands.Commands.{Commands}
 use Rattle.command.specs.declared.parameters.Parameters.{Parameters}
 
 -- a line and the bytes taken
 abbrev pub seen_line : Line → List ℕ × ℕ
 seen_line l = (l.bytes.now, l.taken)
-
--- a part of a line
-abbrev pub seen_text : Text → Part
-seen_text t = (t.column, t.bytes.now)
 
 -- a field
 abbrev pub seen : lent.Field → Field
@@ -36,46 +31,37 @@ text_of (Parameter t) = t
 text_of (Question t) = t
 
 -- a command
-abbrev pub said : taken.Command → Command
+abbrev pub said : lent_command.Command → Command
 said c = record { column = c.column; prefix = option_map seen c.prefix; letters = option_map seen c.letters; mnemonic = c.mnemonic; question = question_of (seen_text c.rest); parameters = parameters_of (seen_text c.rest) }
-
--- a command whose rest ends at column 2 ^ 63 at the latest, as it does in every line
-abbrev pub countable : taken.Command → Bool
-countable c = nat_le (c.rest.column + length c.rest.bytes.now) (2 ^ 63)
-
--- fields of such a command; none of any other
-abbrev pub when_countable : taken.Command → List Field → List Field
-when_countable c fs = cond (countable c) fs []
 
 -- the commands still to come
 abbrev pub to_come : Commands → List Command
-to_come s = commands_from (s.column, s.rest.now)
+to_come s = all_commands (parts_in 59 s.rest.rest)
 
--- the column behind the line
+-- what is left of the line, and the column where it begins
+abbrev pub seen_line_left : Commands → Option Part
+seen_line_left s = option_map seen_text s.rest.rest
+
+-- the column behind the line; 0 where nothing is left of it
 abbrev pub end_of : Commands → ℕ
-end_of s = s.column + length s.rest.now
+end_of s = end_behind s.rest.rest
 
--- the bytes left of the line, with the end counted that the last command has in place of a semicolon
+-- the bytes left of the line and one more, for the end that the last command has in place of a semicolon; 0 where nothing is left
 abbrev pub room_left : Commands → ℕ
-room_left s = cond (length s.rest.now == 0) 0 (length s.rest.now + 1)
+room_left s = left_of s.rest
 
 -- a command that comes, and those behind it; none where none comes
-abbrev pub comes : Option taken.Command → List Command → List Command
+abbrev pub comes : Option lent_command.Command → List Command → List Command
 comes None cs = []
 comes (Some c) cs = said c ∷ cs
 
--- the parameters in what is left of them
-abbrev pub given_from : ℕ → Option (Bor (List ℕ)) → List Field
-given_from c None = []
-given_from c (Some x) = parameters_from (c, x.now)
-
 -- the parameters still to be given
 abbrev pub to_give : Parameters → List Field
-to_give s = given_from s.column s.rest
+to_give s = map (λ q. field is_parameter (bare q)) (parts_in 44 s.rest.rest)
 
--- the column behind the parameters, and one more while any are left
+-- the column behind the parameters, and one more; 0 where none are left
 abbrev pub limit_of : Parameters → ℕ
-limit_of s = s.column + left_of s.rest
+limit_of s = limit_behind s.rest.rest
 
 -- a parameter that is given, and those behind it; none where none is
 abbrev pub gives : Option lent.Field → List Field → List Field

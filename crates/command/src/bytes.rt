@@ -1,8 +1,9 @@
 // Blanks and separators.
-ghost use Rattle.std.specs.Prelude.{◌≡◌, ◌+◌, ◌-◌, ◌^◌, ◌≤◌, length, take};
+ghost use Rattle.std.specs.Prelude.{◌≡◌, ◌+◌, ◌≤◌, length, IfSome};
 ghost use Rattle.std.specs.List.{prefix_len, suffix_len};
-ghost use Rattle.command.specs.Lines.{blank, apart, bare};
-ghost use Rattle.command.specs.Views.{seen_text};
+ghost use Rattle.std.specs.Option.{option_map};
+ghost use Rattle.command.specs.Lines.{blank, apart, bare, front, past, behind};
+ghost use Rattle.command.specs.Held.{seen_text};
 
 use crate::text::Text;
 
@@ -11,36 +12,7 @@ pub(crate) fn before(text: &[u8], separator: u8) -> usize
     ensures count { result ≡ prefix_len (apart separator) text.now }
     ensures within { result ≤ length text.now }
 {
-    for (i, b) in text.iter().enumerate() {
-        if *b == separator {
-            return i;
-        }
-    }
-    text.len()
-}
-
-/// How many bytes stand before the semicolon that ends a command.
-pub(crate) fn before_semicolon(text: &[u8]) -> usize
-    ensures count { result ≡ prefix_len (apart 59) text.now }
-    ensures within { result ≤ length text.now }
-{
-    before(text, b';')
-}
-
-/// How many bytes stand before the comma that ends a parameter.
-pub(crate) fn before_comma(text: &[u8]) -> usize
-    ensures count { result ≡ prefix_len (apart 44) text.now }
-    ensures within { result ≤ length text.now }
-{
-    before(text, b',')
-}
-
-/// The column behind so many bytes and a separator.
-pub(crate) fn column_behind(column: usize, count: usize) -> usize
-    requires { column + count ≤ 2 ^ 63 }
-    ensures { result ≡ column + (count + 1) }
-{
-    column + count + 1
+    text.iter().take_while(|b| **b != separator).count()
 }
 
 /// Whether a byte is a blank.
@@ -55,34 +27,60 @@ fn blanks_before(text: &[u8]) -> usize
     ensures count { result ≡ prefix_len blank text.now }
     ensures within { result ≤ length text.now }
 {
-    let mut n = 0;
-    while n < text.len() && is_blank(text[n]) {
-        n += 1;
-    }
-    n
+    text.iter().take_while(|b| is_blank(**b)).count()
 }
 
-/// A text without the blanks that it ends with.
-fn cut_blanks(text: &[u8]) -> &[u8]
-    ensures { result.now ≡ take (length text.now - suffix_len blank text.now) text.now }
+/// How many blanks a text ends with.
+fn blanks_behind(text: &[u8]) -> usize
+    ensures count { result ≡ suffix_len blank text.now }
+    ensures within { result ≤ length text.now }
 {
-    let mut rest = text;
-    while let [before @ .., b' '] = rest {
-        rest = before;
-    }
-    rest
+    text.iter().rev().take_while(|b| is_blank(**b)).count()
 }
 
-/// A part without the blanks around it.
-pub(crate) fn trim<'a>(text: Text<'a>) -> Text<'a>
-    requires { text.column + length text.bytes.now ≤ 2 ^ 63 }
-    ensures part { seen_text result ≡ bare (seen_text text.entry) }
-    ensures room { result.column + length result.bytes.now ≤ text.entry.column + length text.entry.bytes.now }
-{
-    let front = blanks_before(text.bytes);
-    let bytes = cut_blanks(&text.bytes[front..]);
-    Text {
-        bytes,
-        column: text.column + front,
+impl<'a> Text<'a> {
+    /// The first `n` bytes.
+    pub(crate) fn first(self, n: usize) -> Text<'a>
+        requires { n ≤ length self.bytes.now }
+        ensures part { seen_text result ≡ front n (seen_text self.entry) }
+        ensures end { result.column + length result.bytes.now ≡ self.entry.column + n }
+    {
+        Text {
+            bytes: &self.bytes[..n],
+            column: self.column,
+        }
+    }
+
+    /// What follows the first `n` bytes.
+    pub(crate) fn past(self, n: usize) -> Text<'a>
+        requires { n ≤ length self.bytes.now }
+        ensures part { seen_text result ≡ past n (seen_text self.entry) }
+        ensures end { result.column + length result.bytes.now ≡ self.entry.column + length self.entry.bytes.now }
+    {
+        Text {
+            bytes: &self.bytes[n..],
+            column: self.column + n,
+        }
+    }
+
+    /// What follows the byte at `n`, if there is one.
+    pub(crate) fn behind(self, n: usize) -> Option<Text<'a>>
+        ensures part { option_map seen_text result ≡ behind n (seen_text self.entry) }
+        ensures end { IfSome result (λ t. t.column + length t.bytes.now ≡ self.entry.column + length self.entry.bytes.now) }
+    {
+        if n < self.bytes.len() {
+            Some(self.past(n + 1))
+        } else {
+            None
+        }
+    }
+
+    /// The part without the blanks around it.
+    pub(crate) fn trim(self) -> Text<'a>
+        ensures part { seen_text result ≡ bare (seen_text self.entry) }
+        ensures within { result.column + length result.bytes.now ≤ self.entry.column + length self.entry.bytes.now }
+    {
+        let text = self.past(blanks_before(self.bytes));
+        text.first(text.bytes.len() - blanks_behind(text.bytes))
     }
 }

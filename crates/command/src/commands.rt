@@ -1,10 +1,8 @@
 // The commands of a line, one after another.
-ghost use Rattle.std.specs.Prelude.{◌+◌, ◌^◌, ◌≤◌, length};
+use crate::parts::Parts;
 
-/// What is left of a line, and the column where it begins.
+/// What is left of a line.
 #[derive(Drop)]
 pub struct Commands<'a> {
-    pub(crate) rest: &'a [u8],
-    pub(crate) column: usize,
-    ghost short: { column + length rest.now ≤ 2 ^ 63 },
+    pub(crate) rest: Parts<'a, b';'>,
 }

@@ -8,6 +8,7 @@ pub mod line;
 pub mod mnemonic;
 pub mod names;
 pub mod parameters;
+mod parts;
 mod reading;
 mod splitting;
 pub mod text;

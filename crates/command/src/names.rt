@@ -5,6 +5,7 @@ ghost use Rattle.command.specs.Mnemonics.{chosen, Named, capitals_name, mnemonic
 
 use crate::mnemonic::Mnemonic;
 
+// No `TryFrom<[u8; 2]>`: it would hold the same match, and an error that nobody reads.
 /// The command that two letters name, small ones counting as capitals.
 pub fn mnemonic_of(a: u8, b: u8) -> Option<Mnemonic>
     ensures name { result ≡ mnemonic_of a b }

@@ -4,9 +4,9 @@ ghost use Rattle.std.specs.Option.{option_map};
 ghost use Rattle.number.specs.Digits.{digits_before};
 ghost use Rattle.command.specs.Lines.{bare, past};
 ghost use Rattle.command.specs.Commands.{prefix_of, letters_of, named, made, body_of, command_of, prefix_number, capped};
-ghost use Rattle.command.specs.Views.{seen, seen_text, text_of, said};
+ghost use Rattle.command.specs.Held.{seen_text};
+ghost use Rattle.command.specs.Views.{seen, text_of, said};
 
-use crate::bytes::trim;
 use crate::command::Command;
 use crate::names::mnemonic_of;
 use crate::text::{Field, Text};
@@ -18,75 +18,55 @@ impl<'a> Field<'a> {
         ensures { result ≡ text_of self.now }
     {
         match self {
-            Field::Prefix(text) => *text,
-            Field::Mnemonic(text) => *text,
-            Field::Parameter(text) => *text,
-            Field::Question(text) => *text,
+            Field::Prefix(text)
+            | Field::Mnemonic(text)
+            | Field::Parameter(text)
+            | Field::Question(text) => *text,
         }
     }
 }
 
 /// The digits that a part begins with, and what follows them.
 fn take_prefix<'a>(text: Text<'a>) -> (Option<Field<'a>>, Text<'a>)
-    requires { text.column + length text.bytes.now ≤ 2 ^ 63 }
     ensures prefix { option_map seen result.0 ≡ prefix_of (seen_text text.entry) }
     ensures body { seen_text result.1 ≡ body_of (seen_text text.entry) }
     ensures within { result.1.column + length result.1.bytes.now ≤ text.entry.column + length text.entry.bytes.now }
 {
     let n = digits_before(text.bytes);
-    let (digits, after) = text.bytes.split_at(n);
-    let body = trim(Text {
-        bytes: after,
-        column: text.column + n,
-    });
+    let body = text.past(n).trim();
     if n == 0 {
         return (None, body);
     }
-    let prefix = Text {
-        bytes: digits,
-        column: text.column,
-    };
-    (Some(Field::Prefix(prefix)), body)
+    (Some(Field::Prefix(text.first(n))), body)
 }
 
 /// Reads what follows the prefix of a command: two letters, and the rest.
 fn read_body<'a>(column: usize, prefix: Option<Field<'a>>, body: Text<'a>) -> Command<'a>
-    requires { body.column + length body.bytes.now ≤ 2 ^ 63 }
     ensures command { said result ≡ made column (option_map seen prefix.entry) (seen_text body.entry) (bare (past 2 (seen_text body.entry))) }
     ensures column { result.column ≡ column }
     ensures within { result.rest.column + length result.rest.bytes.now ≤ body.entry.column + length body.entry.bytes.now }
 {
-    let [a, b, rest @ ..] = body.bytes else {
+    let [a, b, ..] = body.bytes else {
         return Command {
             column,
             prefix,
             letters: None,
             mnemonic: None,
-            rest: Text {
-                bytes: b"",
-                column: body.column,
-            },
+            rest: body.first(0),
         };
-    };
-    let letters = Text {
-        bytes: &body.bytes[0..2],
-        column: body.column,
     };
     Command {
         column,
         prefix,
-        letters: Some(Field::Mnemonic(letters)),
+        letters: Some(Field::Mnemonic(body.first(2))),
         mnemonic: mnemonic_of(*a, *b),
-        rest: trim(Text {
-            bytes: rest,
-            column: body.column + 2,
-        }),
+        rest: body.past(2).trim(),
     }
 }
 
 /// Reads a part without blanks around it as a command.
+#[tactic(auto, unfolding(crate::specs::Commands::command_of))]
 pub(crate) fn read_command<'a>(text: Text<'a>) -> Command<'a>
-    requires { text.column + length text.bytes.now ≤ 2 ^ 63 }
     ensures command { said result ≡ command_of (seen_text text.entry) }
     ensures column { result.column ≡ text.entry.column }
     ensures within { result.rest.column + length result.rest.bytes.now ≤ text.entry.column + length text.entry.bytes.now }

@@ -1,21 +1,18 @@
 // What follows the mnemonic of a command: a question, or parameters one after another.
-ghost use Rattle.std.specs.Prelude.{◌≡◌, ◌+◌, ◌^◌, ◌<◌, ◌≤◌, true, length, IfSome, OnSome};
+ghost use Rattle.std.specs.Prelude.{◌≡◌, ◌+◌, ◌^◌, ◌<◌, ◌≤◌, [], length, IfSome, IfNone, OnSome};
 ghost use Rattle.std.specs.Option.{option_map};
 ghost use Rattle.number.specs.Digits.{number};
 ghost use Rattle.command.specs.Held.{left_of};
 ghost use Rattle.command.specs.Commands.{prefix_number, capped};
-ghost use Rattle.command.specs.Views.{seen, text_of, said, countable, when_countable, to_give, limit_of, gives};
+ghost use Rattle.command.specs.Views.{seen, text_of, said, to_give, limit_of, gives};
 
-use crate::bytes::{before_comma, column_behind, trim};
 use crate::command::Command;
 use crate::parameters::Parameters;
-use crate::text::{Field, Text};
+use crate::parts::Parts;
+use crate::text::Field;
 
 /// From this number on all numbers are alike: there are never so many axes or groups.
 const CAP: u32 = 1000;
-
-/// The last column that is counted, far behind the end of any line.
-const LAST: usize = 1 << 63;
 
 /// The number that digits write, however many they are; 1000 where it is larger.
 fn capped_number(digits: &[u8]) -> u32
@@ -47,32 +44,22 @@ impl<'a> Command<'a> {
         }
     }
 
-    /// Whether the rest ends at a column that can be counted; the rest of every command of a line does.
-    fn counts(&self) -> bool
-        ensures { result ≡ countable self.now }
-    {
-        let Text { bytes, column } = self.rest;
-        column <= LAST && bytes.len() <= LAST - column
-    }
-
     /// The parameters; none where the rest is nothing or a question.
+    #[tactic(auto, using(crate::proofs::Least::parameters_few), unfolding(crate::specs::Commands::parameters_from))]
     pub fn parameters(&self) -> Parameters<'a>
-        ensures all { to_give result ≡ when_countable self.now (said self.now).parameters }
+        ensures all { to_give result ≡ (said self.now).parameters }
+        ensures few { length (said self.now).parameters < 2 ^ 64 }
         ensures left { left_of result.rest ≤ length self.now.rest.bytes.now + 1 }
         ensures limit { limit_of result ≤ self.now.rest.column + length self.now.rest.bytes.now + 1 }
     {
-        if !self.counts() {
-            return Parameters {
-                rest: None,
-                column: 0,
-            };
-        }
-        let Text { bytes, column } = self.rest;
-        match bytes {
-            [] | [b'?'] => Parameters { rest: None, column },
+        match self.rest.bytes {
+            [] | [b'?'] => Parameters {
+                rest: Parts { rest: None },
+            },
             _ => Parameters {
-                rest: Some(bytes),
-                column,
+                rest: Parts {
+                    rest: Some(self.rest),
+                },
             },
         }
     }
@@ -82,23 +69,27 @@ impl<'a> Parameters<'a> {
     /// The next parameter, without the blanks around it, and possibly nothing.
     pub fn next_parameter(&mut self) -> Option<Field<'a>>
         ensures next { to_give self.old ≡ gives result (to_give self.new) }
+        ensures done { IfNone result (to_give self.new ≡ []) }
         ensures within { IfSome result (λ f. (text_of f).column + length (text_of f).bytes.now < limit_of self.old) }
         ensures limit { limit_of self.new ≤ limit_of self.old }
         ensures less { OnSome result (left_of self.new.rest < left_of self.old.rest) }
     {
-        let rest = self.rest?;
-        let n = before_comma(rest);
-        let (bytes, after) = rest.split_at(n);
-        let text = trim(Text {
-            bytes,
-            column: self.column,
-        });
-        let [_, more @ ..] = after else {
-            self.rest = None;
-            return Some(Field::Parameter(text));
-        };
-        self.column = column_behind(self.column, n);
-        self.rest = Some(more);
-        Some(Field::Parameter(text))
+        let part = self.rest.next()?;
+        Some(Field::Parameter(part.trim()))
+    }
+}
+
+impl<'a> Iterator for Parameters<'a> {
+    ghost use Rattle.std.specs.Iterator.{YieldsFirstBy, item_count};
+    ghost use Rattle.command.specs.Views.{seen, to_give};
+
+    type Item = Field<'a>;
+
+    ghost next_gives = { YieldsFirstBy seen to_give };
+
+    ghost remaining = { item_count to_give };
+
+    fn next(&mut self) -> Option<Field<'a>> {
+        self.next_parameter()
     }
 }

@@ -3,9 +3,8 @@ use crate::walks::{count_known, count_parameters};
 use command::commands::Commands;
 use command::line::first_line;
 use number::decimal::read_decimal;
-use number::list::{Position, write_list};
-use number::texts::{write_position, write_setting};
-use number::writing::write_line_end;
+use number::list::Position;
+use number::writer::Writer;
 use std::test::Fail;
 
 /// Texts, and what they are worth in millionths.
@@ -56,11 +55,18 @@ const SETTINGS: [(i64, &[u8]); 9] = [
     (i64::MIN, b"-9223372036854.775808"),
 ];
 
+/// Writes a setting from an offset on; the offset behind it.
+fn end_of_setting(out: &mut [u8], at: usize, millionths: i64) -> usize {
+    let mut writer = Writer::at(out, at);
+    writer.setting(millionths);
+    writer.offset()
+}
+
 #[test]
 fn settings(rt: HostRuntime) {
     for (millionths, text) in SETTINGS {
         let mut out = [b'_'; 24];
-        let end = write_setting(&mut out, 1, millionths);
+        let end = end_of_setting(&mut out, 1, millionths);
         assert!(rt; 1 <= end && end < 24);
         assert_eq!(rt; &out[1..end], text);
         assert!(rt; out[0] == b'_' && out[end] == b'_');
@@ -89,7 +95,9 @@ const POSITIONS: [(i64, usize, &[u8]); 14] = [
 fn positions(rt: HostRuntime) {
     for (millionths, digits, text) in POSITIONS {
         let mut out = [b'_'; 24];
-        let end = write_position(&mut out, 1, digits, millionths);
+        let mut writer = Writer::at(&mut out, 1);
+        writer.position(digits, millionths);
+        let end = writer.offset();
         assert!(rt; 1 <= end && end < 24);
         assert_eq!(rt; &out[1..end], text);
         assert!(rt; out[0] == b'_' && out[end] == b'_');
@@ -109,14 +117,15 @@ fn replies(rt: HostRuntime) {
         },
     ];
     let mut out = [b'_'; 16];
-    let end = write_list(&mut out, 2, &items);
-    let end = write_line_end(&mut out, end);
-    assert_eq!(rt; end, 13);
+    let mut writer = Writer::at(&mut out, 2);
+    writer.list(items.iter());
+    writer.line_end();
+    assert_eq!(rt; writer.offset(), 13);
     assert_eq!(rt; &out[0..16], b"__-1,2.0000\r\n___".as_slice());
     let mut small = [b'_'; 4];
-    assert_eq!(rt; write_setting(&mut small, 1, 1_250_000), 4);
+    assert_eq!(rt; end_of_setting(&mut small, 1, 1_250_000), 4);
     assert_eq!(rt; &small[0..4], b"_1.2".as_slice());
-    assert_eq!(rt; write_setting(&mut small, 9, 1_250_000), 9);
+    assert_eq!(rt; end_of_setting(&mut small, 9, 1_250_000), 9);
 }
 
 /// Lines, how many of their commands are known, and of the first command column, number and parameters.

@@ -27,8 +27,8 @@ fixed_short k n six low =
     let whole = whole_short 4 (n / 10 ^ k) (omega arith) (omega arith) (omega arith) in
     simp length-append (omega (arith, point_short k (n % 10 ^ k)))
 
--- a setting of at most 2,000 units has at most 12 bytes
-pub setting_short : (z : ℤ) → nat_abs z ≤ 2000000000 → length (setting_text z) ≤ 12
+-- a setting of 32 bits has at most 12 bytes
+pub setting_short : (z : ℤ) → nat_abs z < 4294967296 → length (setting_text z) ≤ 12
 unfolding setting_text
 setting_short z low =
     let same = shortened_worth 6 (nat_abs z) (omega arith) in
@@ -36,7 +36,7 @@ setting_short z low =
     simp length-append (omega (arith, when_short (lt_z z (pos 0)) 45))
 
 -- and so has a position
-pub position_short : (k : ℕ) (z : ℤ) → k ≤ 6 → nat_abs z ≤ 2000000000 → length (position_text k z) ≤ 12
+pub position_short : (k : ℕ) (z : ℤ) → k ≤ 6 → nat_abs z < 4294967296 → length (position_text k z) ≤ 12
 unfolding position_text
 position_short k z six low =
     let n = nat_abs z in

@@ -6,3 +6,4 @@ pub mod Again
 pub mod Near
 pub mod Listed
 pub mod Lengths
+pub mod Wrote

@@ -6,7 +6,7 @@ use Rattle.number.specs.Digits.{digit, all_digits, number_on}
 use Rattle.std.proofs.lemmas.Bool.{eq-eqb}
 use Rattle.number.specs.Decimals.{fits_decimal, worth}
 use Rattle.std.proofs.lemmas.List.{at_drop_more, at_drop_all}
-use native.Mathlib.Nat.{pow-le-pow_right}
+use native.Mathlib.Nat.{one-le-pow, pow-le-pow_right}
 
 -- each element of the front that passes, passes
 pub leading_at : (p : ℕ → Bool) (xs : List ℕ) (i : ℕ) → i < prefix_len p xs → p (get_or xs i 0) ≡ true
@@ -57,3 +57,10 @@ leading_take p (x ∷ xs) =
 
 pub front_digits : (xs ys : List ℕ) → ys ≡ take (prefix_len digit xs) xs → all_digits ys ≡ true
 front_digits xs ys e = ap all_digits e ∙ eq-eqb _ _ (leading_take digit xs)
+
+-- powers of ten up to the sixth
+pub ten_positive : (k : ℕ) → 0 < 10 ^ k
+ten_positive k = omega (arith, one-le-pow k 10 (omega arith))
+
+pub ten_bound : (k : ℕ) → k ≤ 6 → 10 ^ k ≤ 1000000
+ten_bound k h = pow-le-pow_right {n = 10} (omega arith) h

@@ -20,9 +20,6 @@ whole_digit n h = let e : 48 + n ≡ 48 + n % 10 = omega arith in whole_is n (om
 pub whole_step : (n : ℕ) → 10 ≤ n → n < 2 ^ 64 → whole_text n ≡ whole_text (n / 10) ++ ((48 + n % 10) ∷ [])
 whole_step n h fits = whole_is n fits ∙ decimal_step n h fits ∙ ap (λ l. l ++ ((48 + n % 10) ∷ [])) (sym (whole_is (n / 10) (omega arith)))
 
-pub last_none : (k n : ℕ) → k ≡ 0 → last_digits k n ≡ []
-last_none k n e = ap (λ j. last_digits j n) e
-
 pub last_more : (k n : ℕ) → 0 < k → last_digits k n ≡ last_digits (k - 1) (n / 10) ++ ((48 + n % 10) ∷ [])
 last_more zero n h = absurd (omega arith)
 last_more (suc k) n h = let e : k ≡ suc k - 1 = omega arith in ap (λ j. last_digits j (n / 10) ++ ((48 + n % 10) ∷ [])) e

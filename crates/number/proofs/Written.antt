@@ -1,8 +1,8 @@
 -- One write after another.
-use Rattle.std.proofs.Common.{◌≡◌, ℕ, suc, ◌+◌, ◌-◌, ◌<◌, ◌≤◌, ltb, List, [], ◌∷◌, ◌++◌, length, take, drop, set, sym, refl, ap, ◌∙◌, ⊎_elim, add-one, arith}
+use Rattle.std.proofs.Common.{◌≡◌, ℕ, suc, ◌+◌, ◌-◌, ◌<◌, ◌≤◌, List, [], ◌∷◌, ◌++◌, length, take, drop, set, sym, ap, ◌∙◌, ⊎_elim, add-one, arith}
 use Rattle.std.proofs.lemmas.List.{append_assoc, length-append, length-take, length-drop, take-append-drop, take-append-le, take_all, take_at, drop_at, drop-drop, set_split}
-use Rattle.std.proofs.lemmas.Bool.{cases_lt, cond_both, ltb-true, ltb-false}
-use Rattle.number.specs.Writing.{fitting, put_byte, write}
+use Rattle.std.proofs.lemmas.Bool.{cases_lt}
+use Rattle.number.specs.Writing.{fitting, write}
 
 -- where there is room
 pub write_room : (was : List ℕ) (at : ℕ) (bytes : List ℕ) → at + length bytes ≤ length was → write was at bytes ≡ (at + length bytes, take at was ++ (bytes ++ drop (at + length bytes) was))
@@ -30,13 +30,6 @@ write_nothing was at =
 
 pub write_one : (was : List ℕ) (at b : ℕ) → at < length was → (at + 1, set was at b) ≡ write was at (b ∷ [])
 write_one was at b h = sym (write_room was at (b ∷ []) (omega arith) ∙ (λ i. (at + 1, (ap (λ k. take at was ++ b ∷ drop k was) (add-one at) ∙ sym (set_split was at b h)) i)))
-
--- one byte
-pub put_is : (was : List ℕ) (at b : ℕ) → put_byte was at b ≡ write was at (b ∷ [])
-put_is was at b =
-    cond_both (ltb at (length was)) (at + 1, set was at b) (at, was) (λ p. p ≡ write was at (b ∷ []))
-    (λ t. write_one was at b (ltb-true at (length was) t))
-    (λ t. sym (write_full was at (b ∷ []) (ltb-false at (length was) t)))
 
 take_past : (xs ys : List ℕ) (k : ℕ) → take (length xs + k) (xs ++ ys) ≡ xs ++ take k ys
 take_past [] ys k = let e : 0 + k ≡ k = omega arith in ap (λ j. take j ys) e
@@ -91,7 +84,3 @@ write_after {is} {then} {mid} {stop} was at xs ys f g =
     (λ h. let here = f ∙ write_room was at xs h in
     g ∙ (λ i. write (here i).1 (here i).0 ys) ∙ sym (joined was at xs ys h))
     (cases_lt (length was) (at + length xs))
-
--- one byte after another
-pub write_more : {is : List ℕ} {mid : ℕ} (was : List ℕ) (at x : ℕ) (xs : List ℕ) → (mid, is) ≡ write was at (x ∷ []) → write is mid xs ≡ write was at (x ∷ xs)
-write_more was at x xs f = write_after was at (x ∷ []) xs f refl

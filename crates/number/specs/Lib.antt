@@ -3,3 +3,4 @@ pub mod Decimals
 pub mod Writing
 pub mod Texts
 pub mod Laws
+pub mod Writer

@@ -1,5 +1,5 @@
 -- Bytes written into a buffer.
-use Rattle.std.specs.Prelude.{ℕ, ◌+◌, ◌-◌, cond, List, ◌++◌, length, take, drop, nat_lt, slice_set}
+use Rattle.std.specs.Prelude.{ℕ, ◌+◌, ◌-◌, List, ◌++◌, length, take, drop}
 
 -- those of the bytes for which the buffer has room behind the offset
 abbrev pub fitting : List ℕ → ℕ → List ℕ → List ℕ
@@ -8,7 +8,3 @@ fitting was at bytes = take (length was - at) bytes
 -- bytes written at an offset: the offset behind them, and the buffer, all its other bytes as they were
 unfoldable pub write : List ℕ → ℕ → List ℕ → ℕ × List ℕ
 write was at bytes = (at + length (fitting was at bytes), take at was ++ (fitting was at bytes ++ drop (at + length (fitting was at bytes)) was))
-
--- one byte set: the next offset, and the buffer; past the end nothing is done
-abbrev pub put_byte : List ℕ → ℕ → ℕ → ℕ × List ℕ
-put_byte was at b = cond (nat_lt at (length was)) (at + 1, slice_set was at b) (at, was)

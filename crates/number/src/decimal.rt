@@ -30,7 +30,8 @@ fn allowed(whole: &[u8], fraction: &[u8]) -> bool
 
 /// What the digits in front of the point and behind it are worth, in millionths.
 fn in_millionths(whole: &[u8], fraction: &[u8]) -> Option<u64>
-    requires { (all_digits whole.now ≡ true) × (all_digits fraction.now ≡ true) }
+    requires whole { all_digits whole.now ≡ true }
+    requires fraction { all_digits fraction.now ≡ true }
     ensures value { result ≡ worth whole.now fraction.now }
     ensures bound { IfSome result (λ n. n < 2 ^ 60) }
 {

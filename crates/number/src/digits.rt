@@ -7,16 +7,13 @@ pub fn digits_before(text: &[u8]) -> usize
     ensures count { result ≡ digits_before text.now }
     ensures within { result ≤ length text.now }
 {
-    let mut count = 0;
-    while count < text.len() && text[count].is_ascii_digit() {
-        count += 1;
-    }
-    count
+    text.iter().take_while(|c| c.is_ascii_digit()).count()
 }
 
 /// The number that up to nine digits write.
 pub(crate) fn short_number(digits: &[u8]) -> u64
-    requires { (length digits.now ≤ 9) × (all_digits digits.now ≡ true) }
+    requires short { length digits.now ≤ 9 }
+    requires digits { all_digits digits.now ≡ true }
     ensures value { result ≡ number digits.now }
     ensures bound { result < 10 ^ length digits.now }
 {
@@ -28,18 +25,12 @@ pub(crate) fn short_number(digits: &[u8]) -> u64
 }
 
 /// Ten to a power up to the sixth.
+#[tactic(auto, using(crate::proofs::Runs::ten_positive, crate::proofs::Runs::ten_bound))]
 pub(crate) fn power_of_ten(k: usize) -> u64
     requires { k ≤ 6 }
     ensures value { result ≡ 10 ^ k }
-    ensures bound { (0 < result) × (result ≤ 1000000) }
+    ensures positive { 0 < result }
+    ensures bound { result ≤ 1000000 }
 {
-    match k {
-        0 => 1,
-        1 => 10,
-        2 => 100,
-        3 => 1_000,
-        4 => 10_000,
-        5 => 100_000,
-        _ => 1_000_000,
-    }
+    10u64.pow(k as u32)
 }

@@ -5,4 +5,4 @@ pub mod decimal;
 pub mod digits;
 pub mod list;
 pub mod texts;
-pub mod writing;
+pub mod writer;

@@ -1,18 +1,19 @@
 // Lists of numbers, parted by commas.
-ghost use Rattle.std.specs.Prelude.{◌≡◌, ℕ, min, List, map};
-ghost use Rattle.number.specs.Writing.{write};
+ghost use Rattle.std.specs.Prelude.{◌≡◌, ℕ, ◌<◌, min, List, map};
+ghost use Rattle.std.specs.Iterator.{IsFinite};
+ghost use Rattle.std.specs.Iterator.Runs.{WholeRun};
+ghost use Rattle.number.specs.Writer.{wrote};
 ghost use Rattle.number.specs.Texts.{whole_text, setting_text, position_text, list_text};
 
-use crate::texts::{write_position, write_setting, write_whole};
-use crate::writing::write_when;
+use crate::writer::Writer;
 
 /// What a list is made of: anything that has a text.
 pub trait Item {
     ghost text: { Self → List ℕ };
 
-    /// Writes the text, and answers the offset behind it.
-    fn put(&self, out: &mut [u8], at: usize) -> usize
-        ensures { (result, out.new) ≡ write out.old at (text self.now) };
+    /// Writes the text.
+    fn put(&self, out: &mut Writer)
+        ensures { out.new ≡ wrote out.old (text self.now) };
 }
 
 /// A whole number.
@@ -33,35 +34,63 @@ pub struct Position {
 impl Item for Whole {
     ghost text = { λ n. whole_text n.0 };
 
-    fn put(&self, out: &mut [u8], at: usize) -> usize {
-        write_whole(out, at, self.0)
+    fn put(&self, out: &mut Writer) {
+        out.whole(self.0);
     }
 }
 
 impl Item for Setting {
     ghost text = { λ s. setting_text s.0 };
 
-    fn put(&self, out: &mut [u8], at: usize) -> usize {
-        write_setting(out, at, self.0)
+    fn put(&self, out: &mut Writer) {
+        out.setting(self.0);
     }
 }
 
 impl Item for Position {
     ghost text = { λ p. position_text (min p.digits 6) p.millionths };
 
-    fn put(&self, out: &mut [u8], at: usize) -> usize {
-        write_position(out, at, self.digits, self.millionths)
+    fn put(&self, out: &mut Writer) {
+        out.position(self.digits, self.millionths);
     }
 }
 
-/// Writes items parted by commas, and answers the offset behind them.
-pub fn write_list<T: Item>(out: &mut [u8], at: usize, items: &[T]) -> usize
-    ensures { (result, out.new) ≡ write out.old at (list_text (map T.text items.now)) }
-{
-    let mut end = at;
-    for (i, item) in items.iter().enumerate() {
-        end = write_when(out, end, i > 0, b',');
-        end = item.put(out, end);
+impl<T: Item> Item for &T {
+    ghost text = { λ r. T.text r.now };
+
+    fn put(&self, out: &mut Writer) {
+        (**self).put(out);
     }
-    end
+}
+
+impl Writer<'_> {
+    /// Writes the items that come, parted by commas.
+    #[tactic(auto, using(crate::proofs::Listed::list_none))]
+    pub fn list<T: Item + Drop, I: Iterator<Item = T> + Drop>(&mut self, items: I)
+        requires can { I.can_next items }
+        requires ends { IsFinite (I.remaining items) }
+        ensures runs { WholeRun I.next_gives items (λ p. self.new ≡ wrote self.old (list_text (map T.text p.items))) }
+    {
+        let mut behind = false;
+        for item in items {
+            self.when(behind, b',');
+            item.put(self);
+            behind = true;
+        }
+    }
+
+    // A loop of its own: over `self.list(numbers.iter().map(..))` the check did not find the clause, which no function but a relation gives.
+    /// Writes what is made of each number, parted by commas.
+    #[tactic(auto, using(crate::proofs::Listed::list_none))]
+    pub fn list_of<T: Item + Drop, F: Fn(u8) -> T>(&mut self, numbers: &[u8], item: F)
+        requires { F.IsAlwaysCallable item }
+        ensures { (text : ℕ → List ℕ) → ((n : ℕ) (x : T) → n < 256 → F.post item n x → T.text x ≡ text n) → self.new ≡ wrote self.old (list_text (map text numbers.now)) }
+    {
+        let mut behind = false;
+        for number in numbers {
+            self.when(behind, b',');
+            item(*number).put(self);
+            behind = true;
+        }
+    }
 }

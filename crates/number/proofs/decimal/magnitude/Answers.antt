@@ -4,7 +4,7 @@ use Rattle.number.proofs.Runs.{front_digits}
 use Rattle.number.proofs.decimal.magnitude.Goals as goal
 
 pub in_millionths-requires : goal.in_millionths-requires
-in_millionths-requires c = (search (rules, front_digits), c.in_ok-digits.ensures.digits)
+in_millionths-requires c = record { whole = search (rules, front_digits); fraction = c.in_ok-digits.ensures.digits }
 
 pub returns-in_err-digits : goal.returns-in_err-digits
 unfolding magnitude_of

@@ -6,7 +6,7 @@ pub overflow_sub-c : goal.overflow_sub-c
 overflow_sub-c c = search (rules, digit_at)
 
 pub loop-c-preserved : goal.loop-c-preserved
-loop-c-preserved c = read_more c.args.digits.now _ _ _ c.requires.1 c.loop-c-test.true c.from.ensures c.loop-c.invariant.0 c.loop-c.invariant.1
+loop-c-preserved c = read_more c.args.digits.now _ _ _ c.requires.digits c.loop-c-test.true c.from.ensures c.loop-c.invariant.0 c.loop-c.invariant.1
 
 pub returns : goal.returns
 returns c = search (rules, read_all)
