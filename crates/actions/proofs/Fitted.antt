@@ -1,5 +1,5 @@
 -- What an accepted command says fits. Assumes nothing.
-use Rattle.std.proofs.Common.{◌≡◌, ℕ, zero, suc, ◌+◌, ◌-◌, ◌/◌, ◌^◌, ◌≤◌, Bool, true, false, cond, not, ◌&&◌, ◌||◌, T, eqb, ltb, leb, List, [], ◌∷◌, map, length, get_or, take, ℤ, pos, negsuc, ◌+ℤ◌, nat_abs, ◌≤ℤ◌, is_some, Some, None, Option, sym, refl, ap, ◌∙◌, subst, arith, le→leb, eqb→eq, ltb→lt, leb→le}
+use Rattle.std.proofs.Common.{◌≡◌, ℕ, zero, suc, ◌+◌, ◌-◌, ◌/◌, ◌^◌, ◌≤◌, Bool, true, false, cond, not, ◌&&◌, ◌||◌, T, eqb, ltb, leb, List, [], ◌∷◌, map, length, get_or, take, ℤ, pos, negsuc, ◌+ℤ◌, nat_abs, ◌≤ℤ◌, is_some, Some, None, Option, sym, refl, ap, ◌∙◌, subst, ⊎_elim, arith, le→leb, eqb→eq, ltb→lt, leb→le}
 use lib.Signed.{le_z, lt_z}
 use Rattle.std.proofs.lemmas.Int.{ints}
 use Rattle.std.proofs.lemmas.List.{length-map, length-take}
@@ -16,39 +16,14 @@ use Rattle.desk.specs.Axes.{no_axis}
 use Rattle.desk.specs.Desks.{model_of}
 use Rattle.desk.specs.Tables.{there, row_or}
 use Rattle.rules.specs.World.{Core, core_of, no_drive_axis, axis_count, group_count, settings, members, axis_at}
-use Rattle.rules.specs.Kinds.{is, among}
+use Rattle.rules.specs.Kinds.{is}
 use Rattle.rules.specs.Refusals as R
-use Rattle.rules.specs.Refusals.{axis_named, group_named, given, value, units, whole_value, or_zero, none_blank, none_below, each_axis, each_within, unblank_pass, asking, refusal, refused_by, tests_of}
+use Rattle.rules.specs.Refusals.{axis_named, group_named, given, naming, doing, where_so, value, units, whole_value, or_zero, none_blank, none_below, each_axis, each_within, unblank_pass, asking, refusal, refused_by, tests_of}
+use Rattle.asked.proofs.Stands.{twelve_axes, twelve_groups}
+use Rattle.laws.proofs.Basics.{Passed, passed_l, passed_r, judged, and_l, and_r, or_case, true_of, there_high}
+use Rattle.laws.proofs.Passing.{Passing, passing, figure_le, parameter_parts}
 use Rattle.actions.specs.Narrow.{fitting, as_position}
 use Rattle.actions.specs.Fits.{Wide, AxisFits, GroupFits, FigureFits, PositionFits, Fits}
-use Rattle.actions.proofs.Accepts.{Passed, passed_l, all_passed, Accepted, accepted}
-
--- ---- tests
-
-and_l : (a b : Bool) → T (a && b) → T a
-and_l true b h = tt
-and_l false b h = h
-
-and_r : (a b : Bool) → T (a && b) → T b
-and_r true b h = h
-and_r false b h = absurd h
-
-or_case : {P : Type 0} (a b : Bool) → (T a → P) → (T b → P) → T (a || b) → P
-or_case true b f g h = f tt
-or_case false b f g h = g h
-
-true_of : (b : Bool) → T b → b ≡ true
-true_of true h = refl
-true_of false h = absurd h
-
--- five tests at once
-five : (a b c d e : Bool) → T (a && b && c && d && e) → (T a × T b × T c × T d × T e)
-five true true true true true h = (tt, tt, tt, tt, tt)
-five false b c d e h = absurd h
-five true false c d e h = absurd h
-five true true false d e h = absurd h
-five true true true false e h = absurd h
-five true true true true false h = absurd h
 
 -- ---- numbers that fit
 
@@ -56,7 +31,7 @@ fitting_le : (most n : ℕ) → n ≤ most → fitting most n ≡ n
 fitting_le most n h = ap (λ b. cond b n 0) (true_of (leb n most) (le→leb n most h))
 
 number_fits : {X : Type 0} (n : ℕ) (xs : List X) → length xs ≤ 12 → T (there n xs) → capped n ≡ n
-number_fits n xs h t = let l = leb→le n (length xs) (and_r (leb 1 n) (leb n (length xs)) t) in omega arith
+number_fits n xs h t = let l = there_high n xs t in omega arith
 
 position_fits : (z low high : ℤ) → negsuc (2 ^ 31 - 1) ≤ℤ low → high ≤ℤ pos (2 ^ 31 - 1) → T (le_z low z) → T (le_z z high) → as_position z ≡ z
 position_fits z low high l h a b =
@@ -78,8 +53,7 @@ reach_fits z reach h t =
 
 -- a figure above 0 and not above the most
 figure_fits : (z : ℤ) (most : ℕ) → most ≤ 2 ^ 32 - 1 → T (lt_z (pos 0) z) → T (le_z z (pos most)) → FigureFits (nat_abs z)
-figure_fits (pos n) most h a b = let q : pos n ≤ℤ pos most = record { le = b } in fitting_le (2 ^ 32 - 1) n (omega (arith, ints))
-figure_fits (negsuc n) most h a b = absurd a
+figure_fits z most h a b = let l = figure_le z most a b in fitting_le (2 ^ 32 - 1) (nat_abs z) (omega arith)
 
 -- the same of a group that has members
 group_figure_fits : (f : ℕ → ℕ) (z : ℤ) (ns : List ℕ) → ((n : ℕ) → f n ≤ 2 ^ 32 - 1) → T (ltb 0 (length ns)) → T (lt_z (pos 0) z) → T (none_below z (map f ns)) → FigureFits (nat_abs z)
@@ -169,68 +143,64 @@ axis_or_all k c s t = or_case (R.names_all c) (there (axis_named c) k.desk.axes)
 group_fits : (k : Core) (c : Command) → Small k → T (there (group_named k c) k.desk.groups) → GroupFits k c
 group_fits k c s t = number_fits (group_named k c) k.desk.groups s.few_groups t
 
--- what x01 asks of the parameter, one by one
-parts : (k : Core) (m : Mnemonic) (n : ℕ) (z : ℤ) → T (R.axis_parameter_ok k m n z) → (
-    T (not (among (Ac ∷ Ag ∷ []) m) || lt_z (pos 0) z)
-    × T (not (is m Fp) || R.whole_within 0 6 z)
-    × T (not (is m Dh) || (le_z (settings k n).left z && le_z z (settings k n).right))
-    × T (not (is m Sl) || (le_z z (axis_at k n).position && R.reachable k n z))
-    × T (not (is m Sr) || (le_z (axis_at k n).position z && R.reachable k n z)))
-parts k m n z h =
-    five (not (among (Ac ∷ Ag ∷ []) m) || lt_z (pos 0) z) (not (is m Fp) || R.whole_within 0 6 z) (not (is m Dh) || (le_z (settings k n).left z && le_z z (settings k n).right))
-    (not (is m Sl) || (le_z z (axis_at k n).position && R.reachable k n z)) (not (is m Sr) || (le_z (axis_at k n).position z && R.reachable k n z)) h
-
 -- a target within the limits of the axis n
 target_fits : (k : Core) (n : ℕ) (z : ℤ) → Small k → T (le_z (settings k n).left z) → T (le_z z (settings k n).right) → PositionFits z
 target_fits k n z s l r = position_fits z (settings k n).left (settings k n).right (s.wide n).left (s.wide n).right l r
 
-pub fitted : (k : Core) (m : Mnemonic) (c : Command) → Small k → Accepted k m c → Fits k m c
-fitted k Va c s a = (axis_fits k c s a.axis.0, figure_fits (given c) (settings k (axis_named c)).max_velocity (s.wide (axis_named c)).velocity a.velocity.0 a.velocity.1.0)
-fitted k Ac c s a = (axis_fits k c s a.axis.0, figure_fits (given c) (settings k (axis_named c)).max_acceleration (s.wide (axis_named c)).acceleration (parts k Ac (axis_named c) (given c) a.parameter.0).0 a.acceleration.0)
-fitted k Ag c s a = (axis_fits k c s a.axis.0, figure_fits (given c) (settings k (axis_named c)).max_acceleration (s.wide (axis_named c)).acceleration (parts k Ag (axis_named c) (given c) a.parameter.0).0 a.acceleration.0)
-fitted k Sl c s a = (axis_fits k c s a.axis.0, reach_fits (given c) (axis_at k (axis_named c)).reach (s.reach (axis_named c)) (and_r (le_z (given c) (axis_at k (axis_named c)).position) (R.reachable k (axis_named c) (given c)) (parts k Sl (axis_named c) (given c) a.parameter.0).3))
-fitted k Sr c s a = (axis_fits k c s a.axis.0, reach_fits (given c) (axis_at k (axis_named c)).reach (s.reach (axis_named c)) (and_r (le_z (axis_at k (axis_named c)).position (given c)) (R.reachable k (axis_named c) (given c)) (parts k Sr (axis_named c) (given c) a.parameter.0).4))
-fitted k Fp c s a = (axis_fits k c s a.axis.0, whole_fits 0 6 (2 ^ 8 - 1) (given c) (omega arith) (parts k Fp (axis_named c) (given c) a.parameter.0).1)
-fitted k Mo c s a = axis_fits k c s a.axis.0
-fitted k Mf c s a = axis_fits k c s a.axis.0
-fitted k Pa c s a = (axis_fits k c s a.axis.0, target_fits k (axis_named c) (given c) s a.limits.1.0 a.limits.0)
-fitted k Pr c s a = (axis_fits k c s a.axis.0, target_fits k (axis_named c) ((axis_at k (axis_named c)).target +ℤ given c) s a.limits.1.0 a.limits.0)
-fitted k St c s a = axis_fits k c s a.axis.0
-fitted k Dh c s a =
+-- each parameter that is not blank is one
+unblanks : (k : Core) (m : Mnemonic) (c : Command) → asking m c ≡ false → Passed (tests_of k (Some m) c) → Passed (unblank_pass k m c 0 c.parameters)
+unblanks k m c e p =
+    let d1 : Passed (doing k m c) = subst (λ b. Passed (where_so (not b) (doing k m c))) e (passed_r (naming k m c) (where_so (not (asking m c)) (doing k m c)) p) in
+    passed_l (unblank_pass k m c 0 c.parameters) _ (passed_l (R.parameter_out k m c) _ (passed_r (R.in_group k m c) _ d1))
+
+-- `u` says so of the parameters, `a` what the other rules say
+pub fitted : (k : Core) (m : Mnemonic) (c : Command) → Small k → Passed (unblank_pass k m c 0 c.parameters) → Passing k m c → Fits k m c
+fitted k Va c s u a = (axis_fits k c s a.axis_there.0, figure_fits (given c) (settings k (axis_named c)).max_velocity (s.wide (axis_named c)).velocity a.velocity.0 a.velocity.1.0)
+fitted k Ac c s u a = (axis_fits k c s a.axis_there.0, figure_fits (given c) (settings k (axis_named c)).max_acceleration (s.wide (axis_named c)).acceleration (parameter_parts k Ac (axis_named c) (given c) a.parameter.0).0 a.acceleration.0)
+fitted k Ag c s u a = (axis_fits k c s a.axis_there.0, figure_fits (given c) (settings k (axis_named c)).max_acceleration (s.wide (axis_named c)).acceleration (parameter_parts k Ag (axis_named c) (given c) a.parameter.0).0 a.acceleration.0)
+fitted k Sl c s u a = (axis_fits k c s a.axis_there.0, reach_fits (given c) (axis_at k (axis_named c)).reach (s.reach (axis_named c)) (and_r (le_z (given c) (axis_at k (axis_named c)).position) (R.reachable k (axis_named c) (given c)) (parameter_parts k Sl (axis_named c) (given c) a.parameter.0).1.1.1.0))
+fitted k Sr c s u a = (axis_fits k c s a.axis_there.0, reach_fits (given c) (axis_at k (axis_named c)).reach (s.reach (axis_named c)) (and_r (le_z (axis_at k (axis_named c)).position (given c)) (R.reachable k (axis_named c) (given c)) (parameter_parts k Sr (axis_named c) (given c) a.parameter.0).1.1.1.1))
+fitted k Fp c s u a = (axis_fits k c s a.axis_there.0, whole_fits 0 6 (2 ^ 8 - 1) (given c) (omega arith) (parameter_parts k Fp (axis_named c) (given c) a.parameter.0).1.0)
+fitted k Mo c s u a = axis_fits k c s a.axis_there.0
+fitted k Mf c s u a = axis_fits k c s a.axis_there.0
+fitted k Pa c s u a = (axis_fits k c s a.axis_there.0, target_fits k (axis_named c) (given c) s a.limits.1.0 a.limits.0)
+fitted k Pr c s u a = (axis_fits k c s a.axis_there.0, target_fits k (axis_named c) ((axis_at k (axis_named c)).target +ℤ given c) s a.limits.1.0 a.limits.0)
+fitted k St c s u a = axis_fits k c s a.axis_there.0
+fitted k Dh c s u a =
     let n = axis_named c in
-    let p = (parts k Dh n (given c) a.parameter.0).2 in
-    (axis_fits k c s a.axis.0, target_fits k n (given c) s (and_l (le_z (settings k n).left (given c)) (le_z (given c) (settings k n).right) p) (and_r (le_z (settings k n).left (given c)) (le_z (given c) (settings k n).right) p))
-fitted k Ws c s a = axis_or_all k c s a.axis.0
-fitted k Id c s a = tt
-fitted k Tp c s a = tt
-fitted k Dp c s a = tt
-fitted k Md c s a = tt
-fitted k Hn c s a = (group_fits k c s a.group.0, axes_fit k c.parameters s.few_axes (passed_l (each_axis k c.parameters) _ a.axes))
-fitted k Hx c s a = group_fits k c s a.group.0
-fitted k Hv c s a = (group_fits k c s a.group.0, group_figure_fits (λ n. (settings k n).max_velocity) (given c) (members k (group_named k c)) (λ n. (s.wide n).velocity) a.in_use.0 a.figure.0 a.figure_most.0)
-fitted k Ha c s a = (group_fits k c s a.group.0, group_figure_fits (λ n. (settings k n).max_acceleration) (given c) (members k (group_named k c)) (λ n. (s.wide n).acceleration) a.in_use.0 a.figure.0 a.figure_most.0)
-fitted k Hd c s a = (group_fits k c s a.group.0, group_figure_fits (λ n. (settings k n).max_acceleration) (given c) (members k (group_named k c)) (λ n. (s.wide n).acceleration) a.in_use.0 a.figure.0 a.figure_most.0)
-fitted k Ho c s a = group_fits k c s a.group.0
-fitted k Hf c s a = group_fits k c s a.group.0
-fitted k Hl c s a =
+    let p = (parameter_parts k Dh n (given c) a.parameter.0).1.1.0 in
+    (axis_fits k c s a.axis_there.0, target_fits k n (given c) s (and_l (le_z (settings k n).left (given c)) (le_z (given c) (settings k n).right) p) (and_r (le_z (settings k n).left (given c)) (le_z (given c) (settings k n).right) p))
+fitted k Ws c s u a = axis_or_all k c s a.axis_there.0
+fitted k Id c s u a = tt
+fitted k Tp c s u a = tt
+fitted k Dp c s u a = tt
+fitted k Md c s u a = tt
+fitted k Hn c s u a = (group_fits k c s a.group_there.0, axes_fit k c.parameters s.few_axes (passed_l (each_axis k c.parameters) _ a.axes))
+fitted k Hx c s u a = group_fits k c s a.group_there.0
+fitted k Hv c s u a = (group_fits k c s a.group_there.0, group_figure_fits (λ n. (settings k n).max_velocity) (given c) (members k (group_named k c)) (λ n. (s.wide n).velocity) a.group_used.0 a.figure.0 a.figure_most.0)
+fitted k Ha c s u a = (group_fits k c s a.group_there.0, group_figure_fits (λ n. (settings k n).max_acceleration) (given c) (members k (group_named k c)) (λ n. (s.wide n).acceleration) a.group_used.0 a.figure.0 a.figure_most.0)
+fitted k Hd c s u a = (group_fits k c s a.group_there.0, group_figure_fits (λ n. (settings k n).max_acceleration) (given c) (members k (group_named k c)) (λ n. (s.wide n).acceleration) a.group_used.0 a.figure.0 a.figure_most.0)
+fitted k Ho c s u a = group_fits k c s a.group_there.0
+fitted k Hf c s u a = group_fits k c s a.group_there.0
+fitted k Hl c s u a =
     let ms = members k (group_named k c) in
     let fs = c.parameters in
-    let n = counted k c 0 fs (omega arith) (and_r (leb (length ms) (length fs)) (none_blank fs) a.enough.0) a.parameters in
+    let n = counted k c 0 fs (omega arith) (and_r (leb (length ms) (length fs)) (none_blank fs) a.enough.0) u in
     let most = s.few_members (group_named k c) in
     let l = length-map fs value in
-    (group_fits k c s a.group.0, positions_fit k ms fs s.wide (omega arith) a.limits, true_of (leb (length (R.values c)) 12) (le→leb (length (R.values c)) 12 (omega arith)))
-fitted k Hp c s a = tt
-fitted k Hw c s a = group_fits k c s a.group.0
-fitted k Ab c s a = tt
-fitted k Wt c s a = beats_fit k c c.parameters a.parameters
-fitted k Tb c s a = tt
-fitted k Te c s a = tt
+    (group_fits k c s a.group_there.0, positions_fit k ms fs s.wide (omega arith) a.limits, true_of (leb (length (R.values c)) 12) (le→leb (length (R.values c)) 12 (omega arith)))
+fitted k Hp c s u a = tt
+fitted k Hw c s u a = group_fits k c s a.group_there.0
+fitted k Ab c s u a = tt
+fitted k Wt c s u a = beats_fit k c c.parameters u
+fitted k Tb c s u a = tt
+fitted k Te c s u a = tt
 
 -- ---- desk and drive
 
 members_few : (gs : List Group) (i : ℕ) → length (get_or (map group_model gs) i free_group).members ≤ 12
 members_few [] i = omega arith
-members_few (g ∷ gs) zero = let l = length-take g.members.size g.members.axes in let f = g.members.few in omega arith
+members_few (g ∷ gs) zero = let l = length-take g.members.list.len g.members.list.items in let f = g.members.list.few in omega arith
 members_few (g ∷ gs) (suc i) = members_few gs i
 
 reach_few : (axes : List Axis) (i : ℕ) → AllByRecursion SoundAxis axes → (get_or axes i no_drive_axis).reach ≤ 2000000000
@@ -241,9 +211,9 @@ reach_few (a ∷ axes) (suc i) h = reach_few axes i h.1
 pub small : (d : Desk) (axes : List Axis) → ((n : ℕ) → Wide (row_or no_axis n (model_of d).axes)) → Sound axes → Small (core_of d axes)
 small d axes w h = record {
   wide = w;
-  few_axes = let l = length-take d.count d.axes in let f = d.few in omega arith;
-  few_groups = let l = length-take (d.count / 2) d.groups in let m = length-map (take (d.count / 2) d.groups) group_model in let f = d.rooms in omega arith;
-  few_members = λ g. elim g as (λ g. length (row_or free_group g (model_of d).groups).members ≤ 12) [ zero ↦ omega arith | suc i ↦ members_few (take (d.count / 2) d.groups) i ];
+  few_axes = twelve_axes d;
+  few_groups = twelve_groups d;
+  few_members = λ g. elim g as (λ g. length (row_or free_group g (model_of d).groups).members ≤ 12) [ zero ↦ omega arith | suc i ↦ members_few (take d.groups.len d.groups.items) i ];
   reach = λ n. elim n as (λ n. (row_or no_drive_axis n axes).reach ≤ 2000000000) [ zero ↦ omega arith | suc i ↦ reach_few axes i h.each ];
 }
 
@@ -251,4 +221,7 @@ small d axes w h = record {
 pub accepted_fits : (d : Desk) (axes : List Axis) (m : Mnemonic) (c : Command) → ((n : ℕ) → Wide (row_or no_axis n (model_of d).axes)) → Sound axes → refused_by (core_of d axes) c ≡ None → c.mnemonic ≡ Some m → asking m c ≡ false → Fits (core_of d axes) m c
 accepted_fits d axes m c w h r e a =
     let k = core_of d axes in
-    fitted k m c (small d axes w h) (accepted k m c a (all_passed (tests_of k (Some m) c) (subst (λ o. refusal (tests_of k o c) ≡ None) e r)))
+    let passed : Passed (tests_of k (Some m) c) =
+    ⊎_elim (λ f. let z : ◌≡◌ {A = ℕ} 0 1 = cc in absurd (omega arith)) (λ q. q.0)
+    (judged (tests_of k (Some m) c)) in
+    fitted k m c (small d axes w h) (unblanks k m c a passed) (passing k m c a passed)

@@ -1,4 +1,5 @@
-// Settings fit 32 bits, as their types say. These functions state it for all that is set, and have nothing else to do.
+// Settings fit 32 bits, as their types say. These functions state it for all that is set, and have nothing else to do. An empty body does
+// not do: a proof knows that a field fits its type only where code reads it.
 ghost use Rattle.std.specs.Prelude.{ℕ};
 ghost use Rattle.desk.specs.Tables.{row_or};
 ghost use Rattle.desk.specs.Axes.{no_axis};
@@ -20,7 +21,7 @@ fn axis_fits(desk: &Desk, axis: usize)
 pub(crate) fn settings_fit(desk: &Desk)
     ensures { (n : ℕ) → Wide (row_or no_axis n (model_of desk.now).axes) }
 {
-    for k in 0..desk.axis_count() {
-        axis_fits(desk, k + 1);
+    for axis in 1..=desk.axis_count() {
+        axis_fits(desk, axis);
     }
 }

@@ -1,7 +1,7 @@
 // What commands do with groups.
-ghost use Rattle.std.specs.Prelude.{◌≡◌, ◌-◌, ◌^◌, true, map, length};
+ghost use Rattle.std.specs.Prelude.{◌≡◌, ◌-◌, ◌^◌, map, length};
 ghost use Rattle.drive.specs.Calls as Calls;
-ghost use Rattle.command.specs.Views.{said, countable};
+ghost use Rattle.command.specs.Views.{said};
 ghost use Rattle.desk.specs.Desks as Desks;
 ghost use Rattle.desk.specs.Desks.{model_of, group_at};
 ghost use Rattle.rules.specs.World as World;
@@ -11,7 +11,7 @@ ghost use Rattle.rules.specs.Deeds as Deeds;
 ghost use Rattle.actions.specs.Narrow.{fitting, as_position};
 ghost use Rattle.actions.specs.Fits.{has_to_wait, sent};
 
-use crate::collecting::{axes_given, positions_given};
+use crate::collecting::{axis_said, collect, position_said};
 use command::command::Command;
 use desk::Desk;
 use drive::Drive;
@@ -19,11 +19,10 @@ use motion::{all_rest, power_off_all, power_on_all, start_all, stop_all, stop_ev
 
 /// Forms a group of the axes that the parameters name.
 pub(crate) fn form(desk: &mut Desk, group: usize, command: &Command)
-    requires { countable command.now ≡ true }
     ensures { model_of desk.new ≡ (Desks.formed group (map (λ f. fitting (2 ^ 8 - 1) (R.units f)) (said command.now).parameters) (model_of desk.old)).1 }
 {
-    if let Some(axes) = axes_given(command) {
-        desk.form(group, axes.axes());
+    if let Some(axes) = collect(command, axis_said) {
+        desk.form(group, axes.as_slice());
     }
 }
 
@@ -51,7 +50,7 @@ pub(crate) fn power_group_off<D: Drive>(desk: &mut Desk, drive: &mut D, group: u
     desk.empty_waypoints(group);
 }
 
-/// Whether a waypoint has to wait: a member moves, or others wait.
+/// Whether a waypoint has to wait: a member moves, or others wait. Its caller holds desk and drive apart, by `&mut`.
 fn has_to_wait<D: Drive>(desk: &Desk, drive: &D, group: usize) -> bool
     ensures { result ≡ has_to_wait group (core_of desk.now (D.Drive.axes drive.now)) }
 {
@@ -72,11 +71,10 @@ fn send<D: Drive>(desk: &mut Desk, drive: &mut D, group: usize, positions: &[i32
 
 /// Sends a group to the waypoint that the parameters say; more than 12 positions are none.
 pub(crate) fn send_given<D: Drive>(desk: &mut Desk, drive: &mut D, group: usize, command: &Command)
-    requires { countable command.now ≡ true }
     ensures { core_of desk.new (D.Drive.axes drive.new) ≡ sent group (map (λ f. as_position (R.value f)) (said command.now).parameters) (core_of desk.old (D.Drive.axes drive.old)) }
 {
-    if let Some(waypoint) = positions_given(command) {
-        send(desk, drive, group, waypoint.positions());
+    if let Some(positions) = collect(command, position_said) {
+        send(desk, drive, group, positions.as_slice());
     }
 }
 
@@ -84,8 +82,8 @@ pub(crate) fn send_given<D: Drive>(desk: &mut Desk, drive: &mut D, group: usize,
 fn empty_all(desk: &mut Desk)
     ensures { model_of desk.new ≡ Deeds.all_emptied (model_of desk.old) }
 {
-    for k in 0..desk.group_count() {
-        desk.empty_waypoints(k + 1);
+    for number in 1..=desk.group_count() {
+        desk.empty_waypoints(number);
     }
 }
 

@@ -7,6 +7,5 @@ mod grouping;
 mod moving;
 mod narrowing;
 mod performing;
-mod setting;
 
 pub use performing::perform;

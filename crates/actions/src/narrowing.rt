@@ -1,4 +1,5 @@
-// Numbers made to fit the types of settings and positions; 0 stands for what does not fit.
+// Numbers made to fit the types of settings and positions; 0 stands for what does not fit, as the definitions
+// have it; what an accepted command says fits.
 ghost use Rattle.std.specs.Prelude.{◌≡◌, ◌-◌, ◌^◌, ◌+ℤ◌};
 ghost use Rattle.actions.specs.Narrow.{fitting, as_position};
 

@@ -1,6 +1,6 @@
 // What a command does, by its mnemonic.
-ghost use Rattle.std.specs.Prelude.{◌≡◌, ◌-◌, ◌^◌, true, None, ◌==◌};
-ghost use Rattle.command.specs.Views.{said, countable};
+ghost use Rattle.std.specs.Prelude.{◌≡◌, ◌-◌, ◌^◌, None, ◌==◌};
+ghost use Rattle.command.specs.Views.{said};
 ghost use Rattle.rules.specs.World.{core_of};
 ghost use Rattle.rules.specs.Refusals as R;
 ghost use Rattle.rules.specs.Deeds as Deeds;
@@ -9,12 +9,8 @@ ghost use Rattle.actions.specs.Fits.{Fits};
 
 use crate::fitting::settings_fit;
 use crate::grouping::{abort, dissolve, form, power_group_off, power_group_on, send_given};
-use crate::moving::{move_by, move_to, power_off, power_on, set_position, stop};
-use crate::narrowing::narrow_u32;
-use crate::setting::{
-    set_acceleration, set_deceleration, set_digits, set_group_acceleration, set_group_deceleration,
-    set_group_velocity, set_left, set_right, set_velocity,
-};
+use crate::moving::{move_by, move_to};
+use crate::narrowing::{narrow_i32, narrow_u8, narrow_u32};
 use asked::naming::{asks, axis_named, group_named};
 use asked::values::{given, whole_value};
 use command::command::Command;
@@ -41,34 +37,35 @@ fn wait_beats<D: Drive>(desk: &mut Desk, drive: &mut D, value: i64)
     beats(desk, drive, narrow_u32(whole_value(value)));
 }
 
-/// What a command does that does not ask.
+/// What a command does that does not ask. Desk and drive change, so it takes no `Case`.
 fn act<D: Drive>(desk: &mut Desk, drive: &mut D, m: Mnemonic, command: &Command)
-    requires countable { countable command.now ≡ true }
-    requires fits { Fits (core_of desk.old (D.Drive.axes drive.old)) m (said command.now) }
+    requires { Fits (core_of desk.old (D.Drive.axes drive.old)) m (said command.now) }
     ensures { core_of desk.new (D.Drive.axes drive.new) ≡ (Deeds.does (core_of desk.old (D.Drive.axes drive.old)) m (said command.now)).core }
 {
     let axis = axis_named(command);
     let group = group_named(desk, command);
     let value = given(command);
+    let figure = narrow_u32(value.unsigned_abs());
+    let position = narrow_i32(value);
     match m {
-        Mnemonic::Va => set_velocity(desk, axis, value),
-        Mnemonic::Ac => set_acceleration(desk, axis, value),
-        Mnemonic::Ag => set_deceleration(desk, axis, value),
-        Mnemonic::Sl => set_left(desk, axis, value),
-        Mnemonic::Sr => set_right(desk, axis, value),
-        Mnemonic::Fp => set_digits(desk, axis, value),
-        Mnemonic::Mo => power_on(drive, axis),
-        Mnemonic::Mf => power_off(drive, axis),
-        Mnemonic::Pa => move_to(desk, drive, axis, value),
+        Mnemonic::Va => _ = desk.set_velocity(axis, figure),
+        Mnemonic::Ac => _ = desk.set_acceleration(axis, figure),
+        Mnemonic::Ag => _ = desk.set_deceleration(axis, figure),
+        Mnemonic::Sl => _ = desk.set_left(axis, position),
+        Mnemonic::Sr => _ = desk.set_right(axis, position),
+        Mnemonic::Fp => _ = desk.set_digits(axis, narrow_u8(whole_value(value))),
+        Mnemonic::Mo => _ = drive.power_on(axis),
+        Mnemonic::Mf => _ = drive.power_off(axis),
+        Mnemonic::Pa => move_to(desk, drive, axis, position),
         Mnemonic::Pr => move_by(desk, drive, axis, value),
-        Mnemonic::St => stop(drive, axis),
-        Mnemonic::Dh => set_position(drive, axis, value),
+        Mnemonic::St => _ = drive.stop(axis),
+        Mnemonic::Dh => _ = drive.set_position(axis, position),
         Mnemonic::Ws => wait_still(desk, drive, axis),
         Mnemonic::Hn => form(desk, group, command),
         Mnemonic::Hx => dissolve(desk, drive, group),
-        Mnemonic::Hv => set_group_velocity(desk, group, value),
-        Mnemonic::Ha => set_group_acceleration(desk, group, value),
-        Mnemonic::Hd => set_group_deceleration(desk, group, value),
+        Mnemonic::Hv => _ = desk.set_group_velocity(group, figure),
+        Mnemonic::Ha => _ = desk.set_group_acceleration(group, figure),
+        Mnemonic::Hd => _ = desk.set_group_deceleration(group, figure),
         Mnemonic::Ho => power_group_on(desk, drive, group),
         Mnemonic::Hf => power_group_off(desk, drive, group),
         Mnemonic::Hl => send_given(desk, drive, group, command),
@@ -82,8 +79,7 @@ fn act<D: Drive>(desk: &mut Desk, drive: &mut D, m: Mnemonic, command: &Command)
 
 /// THE deed of an accepted command. Asking does nothing.
 pub fn perform<D: Drive>(desk: &mut Desk, drive: &mut D, command: &Command)
-    requires countable { countable command.now ≡ true }
-    requires accepted { R.refused_by (core_of desk.old (D.Drive.axes drive.old)) (said command.now) ≡ None }
+    requires { R.refused_by (core_of desk.old (D.Drive.axes drive.old)) (said command.now) ≡ None }
     ensures { core_of desk.new (D.Drive.axes drive.new) ≡ (Deeds.perform (core_of desk.old (D.Drive.axes drive.old)) (said command.now)).core }
 {
     let Some(m) = command.mnemonic else {

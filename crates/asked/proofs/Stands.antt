@@ -1,5 +1,5 @@
 -- Rows of tables that are numbered from 1.
-use Rattle.std.proofs.Common.{◌≡◌, ℕ, zero, suc, ◌/◌, ◌<◌, ◌≤◌, min, true, false, cond, ◌||◌, List, [], ◌∷◌, length, get_or, take, is_some, Some, None, Option, sym, refl, ap, ◌∙◌, ⊎_elim, arith}
+use Rattle.std.proofs.Common.{◌≡◌, ℕ, zero, suc, ◌/◌, ◌<◌, ◌≤◌, min, true, false, cond, ◌||◌, List, [], ◌∷◌, length, get_or, take, is_some, Some, None, sym, refl, ap, ◌∙◌, ⊎_elim, arith}
 use Rattle.std.proofs.lemmas.List.{get_or_past, length-take, length-map}
 use Rattle.std.proofs.lemmas.Bool.{cases_lt}
 use Rattle.std.specs.Result.{result_unwrap_or}
@@ -9,9 +9,6 @@ use Rattle.desk.specs.Tables.{row, row_or}
 use Rattle.desk.specs.declared.desk_state.Desk.{Desk}
 use Rattle.desk.specs.Desks.{model_of, first_with}
 use Rattle.rules.specs.World.{no_drive_axis, taken_groups}
-use Rattle.desk.specs.declared.axis_settings.AxisSettings.{AxisSettings}
-use Rattle.desk.specs.Axes.{no_axis}
-use Rattle.asked.specs.Rows.{Answered, SettingsAre}
 
 -- a question answered is what the row says
 asked_index : {R : Type 0} (f : Axis → R) (i : ℕ) (axes : List Axis) → result_unwrap_or (ask f i axes) (f no_drive_axis) ≡ f (get_or axes i no_drive_axis)
@@ -19,17 +16,9 @@ asked_index f i [] = refl
 asked_index f zero (a ∷ axes) = refl
 asked_index f (suc i) (a ∷ axes) = asked_index f i axes
 
-asked_row : {R : Type 0} (f : Axis → R) (n : ℕ) (axes : List Axis) → result_unwrap_or (ask_axis f n axes) (f no_drive_axis) ≡ f (row_or no_drive_axis n axes)
+pub asked_row : {R : Type 0} (f : Axis → R) (n : ℕ) (axes : List Axis) → result_unwrap_or (ask_axis f n axes) (f no_drive_axis) ≡ f (row_or no_drive_axis n axes)
 asked_row f zero axes = refl
 asked_row f (suc i) axes = asked_index f i axes
-
-pub answered : (axes : List Axis) (n : ℕ) → Answered axes n
-answered axes n = record {
-  position = asked_row (λ a. a.position) n axes;
-  target = asked_row (λ a. a.target) n axes;
-  reach = asked_row (λ a. a.reach) n axes;
-  powered = asked_row (λ a. a.powered) n axes;
-}
 
 -- a row that is found, and one that is not
 pub row_some : {X : Type 0} (d : X) (n : ℕ) (xs : List X) (x : X) → row n xs ≡ Some x → row_or d n xs ≡ x
@@ -43,10 +32,6 @@ row_none d zero xs e = refl
 row_none d (suc i) [] e = refl
 row_none d (suc zero) (y ∷ xs) e = absurd (grind arith)
 row_none d (suc (suc i)) (y ∷ xs) e = row_none d (suc i) xs e
-
-pub settings_are : (axes : List AxisSettings) (n : ℕ) (r : Option AxisSettings) → r ≡ row n axes → (elim r as (λ _. Type 0) [ Some a ↦ a.digits ≤ 6 | None ↦ Unit {0} ]) → SettingsAre axes n r
-settings_are axes n (Some a) e h = (row_some no_axis n axes a (sym e), h)
-settings_are axes n None e h = row_none no_axis n axes (sym e)
 
 pub row_past : {X : Type 0} (d : X) (n : ℕ) (xs : List X) → length xs < n → row_or d n xs ≡ d
 row_past d zero xs h = refl
@@ -63,15 +48,16 @@ taken_first n k [] = refl
 taken_first n k (g ∷ gs) =
     elim (has n g.members) as (λ b. is_some (cond b (Some k) (first_with n (suc k) gs)) ≡ (b || taken_groups n gs)) [ true ↦ refl | false ↦ taken_first n (suc k) gs ]
 
--- a desk has far fewer axes and groups
-pub few_axes : (d : Desk) → length (model_of d).axes < 1000
-few_axes d = let a = length-take d.count d.axes in let f = d.few in omega arith
-
-pub few_groups : (d : Desk) → length (model_of d).groups < 1000
-few_groups d = let a = length-take (d.count / 2) d.groups in let b = length-map (take (d.count / 2) d.groups) group_model in let f = d.rooms in omega arith
-
+-- a desk has 12 axes and groups at most
 pub twelve_axes : (d : Desk) → length (model_of d).axes ≤ 12
-twelve_axes d = let a = length-take d.count d.axes in let f = d.few in omega arith
+twelve_axes d = let a = length-take d.axes.len d.axes.items in let f = d.axes.few in omega arith
 
 pub twelve_groups : (d : Desk) → length (model_of d).groups ≤ 12
-twelve_groups d = let a = length-take (d.count / 2) d.groups in let b = length-map (take (d.count / 2) d.groups) group_model in let f = d.rooms in omega arith
+twelve_groups d = let a = length-take d.groups.len d.groups.items in let b = length-map (take d.groups.len d.groups.items) group_model in let f = d.groups.few in omega arith
+
+-- far fewer than the numbers that prefixes may say
+pub few_axes : (d : Desk) → length (model_of d).axes < 1000
+few_axes d = let t = twelve_axes d in omega arith
+
+pub few_groups : (d : Desk) → length (model_of d).groups < 1000
+few_groups d = let t = twelve_groups d in omega arith

@@ -10,6 +10,7 @@ use desk::{AxisSettings, Desk};
 use drive::Profile;
 
 /// The settings of an axis, if it is there.
+#[tactic(auto, using(crate::proofs::Stands::row_some, crate::proofs::Stands::row_none))]
 pub fn settings(desk: &Desk, axis: usize) -> Option<AxisSettings>
     ensures { SettingsAre (model_of desk.now).axes axis result }
 {
@@ -19,51 +20,32 @@ pub fn settings(desk: &Desk, axis: usize) -> Option<AxisSettings>
 pub fn left(desk: &Desk, axis: usize) -> i32
     ensures { result ≡ (row_or no_axis axis (model_of desk.now).axes).left }
 {
-    match settings(desk, axis) {
-        Some(a) => a.left,
-        None => 0,
-    }
+    settings(desk, axis).map_or(0, |a| a.left)
 }
 
 pub fn right(desk: &Desk, axis: usize) -> i32
     ensures { result ≡ (row_or no_axis axis (model_of desk.now).axes).right }
 {
-    match settings(desk, axis) {
-        Some(a) => a.right,
-        None => 0,
-    }
+    settings(desk, axis).map_or(0, |a| a.right)
 }
 
 pub fn max_velocity(desk: &Desk, axis: usize) -> u32
     ensures { result ≡ (row_or no_axis axis (model_of desk.now).axes).max_velocity }
 {
-    match settings(desk, axis) {
-        Some(a) => a.max_velocity,
-        None => 0,
-    }
+    settings(desk, axis).map_or(0, |a| a.max_velocity)
 }
 
 pub fn max_acceleration(desk: &Desk, axis: usize) -> u32
     ensures { result ≡ (row_or no_axis axis (model_of desk.now).axes).max_acceleration }
 {
-    match settings(desk, axis) {
-        Some(a) => a.max_acceleration,
-        None => 0,
-    }
+    settings(desk, axis).map_or(0, |a| a.max_acceleration)
 }
 
 /// The profile of a start outside a group.
 pub fn own(desk: &Desk, axis: usize) -> Profile
     ensures { result ≡ (row_or no_axis axis (model_of desk.now).axes).own }
 {
-    match settings(desk, axis) {
-        Some(a) => a.own,
-        None => Profile {
-            velocity: 0,
-            acceleration: 0,
-            deceleration: 0,
-        },
-    }
+    settings(desk, axis).map(|a| a.own).unwrap_or_default()
 }
 
 /// How many digits of a position are shown behind the point.
@@ -71,13 +53,11 @@ pub fn digits(desk: &Desk, axis: usize) -> u8
     ensures value { result ≡ (row_or no_axis axis (model_of desk.now).axes).digits }
     ensures few { result ≤ 6 }
 {
-    match settings(desk, axis) {
-        Some(a) => a.digits,
-        None => 0,
-    }
+    settings(desk, axis).map_or(0, |a| a.digits)
 }
 
 /// The axis is a member of a group.
+#[tactic(auto, using(crate::proofs::Stands::taken_first))]
 pub fn grouped(desk: &Desk, axis: usize) -> bool
     ensures { result ≡ taken_groups axis (model_of desk.now).groups }
 {

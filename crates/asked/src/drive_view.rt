@@ -3,40 +3,34 @@ ghost use Rattle.std.specs.Prelude.{◌≡◌};
 ghost use Rattle.drive.specs.Model.{at_rest};
 ghost use Rattle.desk.specs.Tables.{row_or};
 ghost use Rattle.rules.specs.World.{no_drive_axis};
-ghost use Rattle.asked.specs.Rows.{Answered};
 
 use drive::Drive;
 
-/// States that what a drive answers of an axis is what the axis's row says; there is nothing to do.
-fn answers_by_row<D: Drive>(drive: &D, axis: usize)
-    ensures { Answered (D.Drive.axes drive.now) axis }
-{}
-
+#[tactic(auto, using(crate::proofs::Stands::asked_row))]
 pub fn position<D: Drive>(drive: &D, axis: usize) -> i32
     ensures { result ≡ (row_or no_drive_axis axis (D.Drive.axes drive.now)).position }
 {
-    answers_by_row(drive, axis);
     drive.position(axis).unwrap_or(0)
 }
 
+#[tactic(auto, using(crate::proofs::Stands::asked_row))]
 pub fn target<D: Drive>(drive: &D, axis: usize) -> i32
     ensures { result ≡ (row_or no_drive_axis axis (D.Drive.axes drive.now)).target }
 {
-    answers_by_row(drive, axis);
     drive.target(axis).unwrap_or(0)
 }
 
+#[tactic(auto, using(crate::proofs::Stands::asked_row))]
 pub fn reach<D: Drive>(drive: &D, axis: usize) -> u32
     ensures { result ≡ (row_or no_drive_axis axis (D.Drive.axes drive.now)).reach }
 {
-    answers_by_row(drive, axis);
     drive.reach(axis).unwrap_or(0)
 }
 
+#[tactic(auto, using(crate::proofs::Stands::asked_row))]
 pub fn powered<D: Drive>(drive: &D, axis: usize) -> bool
     ensures { result ≡ (row_or no_drive_axis axis (D.Drive.axes drive.now)).powered }
 {
-    answers_by_row(drive, axis);
     drive.powered(axis).unwrap_or(false)
 }
 

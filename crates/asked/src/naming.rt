@@ -17,7 +17,7 @@ pub fn asks(m: Mnemonic, command: &Command) -> bool
     command.question().is_some() && offers_question(m)
 }
 
-/// The axis that an axis command names, 1000 where it is larger; 0 where it names none.
+/// The axis that an axis command names, 1000 where it is larger; 0 where it names none, as the rules count it: to WS both mean all axes.
 pub fn axis_named(command: &Command) -> usize
     ensures { result ≡ capped (axis_named (said command.now)) }
 {
@@ -28,6 +28,6 @@ pub fn axis_named(command: &Command) -> usize
 pub fn group_named(desk: &Desk, command: &Command) -> usize
     ensures { result ≡ capped (number_or (if nat_eq (length (model_of desk.now).groups) 1 then 1 else 0) (prefix_number (said command.now))) }
 {
-    let alone = if desk.group_count() == 1 { 1 } else { 0 };
+    let alone = u32::from(desk.group_count() == 1);
     command.prefix_number().unwrap_or(alone) as usize
 }

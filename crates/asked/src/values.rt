@@ -1,6 +1,6 @@
 // What the parameters of a command say.
-ghost use Rattle.std.specs.Prelude.{◌≡◌, true, length};
-ghost use Rattle.command.specs.Views.{seen, said, countable};
+ghost use Rattle.std.specs.Prelude.{◌≡◌, length};
+ghost use Rattle.command.specs.Views.{seen, said};
 ghost use Rattle.rules.specs.Refusals as R;
 
 use command::command::Command;
@@ -18,10 +18,8 @@ pub fn value(field: &Field) -> i64
 pub fn whole_units(millionths: i64) -> Option<u64>
     ensures { result ≡ R.whole_units millionths }
 {
-    if millionths < 0 || millionths % 1_000_000 != 0 {
-        return None;
-    }
-    Some(millionths.unsigned_abs() / 1_000_000)
+    let magnitude = u64::try_from(millionths).ok()?;
+    (magnitude % 1_000_000 == 0).then_some(magnitude / 1_000_000)
 }
 
 /// The whole number that a value is, 0 for one that is none.
@@ -35,43 +33,29 @@ pub fn whole_value(millionths: i64) -> u64
 pub fn whole_within(low: u64, high: u64, millionths: i64) -> bool
     ensures { result ≡ R.whole_within low high millionths }
 {
-    match whole_units(millionths) {
-        Some(n) => low <= n && n <= high,
-        None => false,
-    }
+    whole_units(millionths).is_some_and(|units| (low..=high).contains(&units))
 }
 
 /// How many parameters a command has.
 pub fn parameter_count(command: &Command) -> usize
-    requires { countable command.now ≡ true }
     ensures { result ≡ length (said command.now).parameters }
 {
-    let mut given = command.parameters();
-    let mut n = 0;
-    while let Some(_) = given.next_parameter() {
-        n += 1;
-    }
-    n
+    command.parameters().count()
 }
 
 /// The value of the first parameter; missing means 0.
 pub fn given(command: &Command) -> i64
-    requires { countable command.now ≡ true }
     ensures { result ≡ R.given (said command.now) }
 {
-    match command.parameters().next_parameter() {
-        Some(field) => value(&field),
-        None => 0,
-    }
+    command.parameters().next().map_or(0, |field| value(&field))
 }
 
 /// The column of the first parameter; that of the command where it is missing.
 pub fn given_column(command: &Command) -> usize
-    requires { countable command.now ≡ true }
     ensures { result ≡ R.given_column (said command.now) }
 {
-    match command.parameters().next_parameter() {
-        Some(field) => field.text().column,
-        None => command.column,
-    }
+    command
+        .parameters()
+        .next()
+        .map_or(command.column, |field| field.text().column)
 }

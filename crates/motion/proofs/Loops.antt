@@ -1,33 +1,49 @@
 -- Loops by what is left to do. Assumes nothing.
-use Rattle.std.proofs.Common.{◌≡◌, ℕ, zero, suc, ◌+◌, ◌-◌, ◌<◌, ◌≤◌, min, Bool, true, false, List, [], ◌∷◌, length, get_or, drop, ℤ, pos, None, refl, ap, ◌∙◌, arith}
-use Rattle.std.proofs.lemmas.List.{at_drop_more}
+use Rattle.std.proofs.Common.{◌≡◌, ℕ, zero, suc, ◌+◌, ◌-◌, ◌<◌, ◌≤◌, min, Bool, true, false, List, [], ◌∷◌, length, drop, ℤ, None, refl, sym, subst, ap, ◌∙◌, arith}
+use Rattle.std.proofs.lemmas.Iterator.{YieldsList}
+use Rattle.std.proofs.lemmas.Iterator.Consumers.{YieldsList-from_shown}
+use Rattle.std.specs.Range.{range_inclusive_start, range_inclusive_end, range_inclusive_exhausted, range_inclusive_len, range_inclusive_left, range_inclusive_steps}
+use Rattle.std.specs.declared.ops.RangeInclusive.{RangeInclusive}
 use Rattle.std.specs.List.{slice_get}
 use Rattle.drive.specs.declared.profile.Profile.{Profile}
-use Rattle.drive.specs.Model.{Axis}
-use Rattle.drive.specs.Calls.{start, replay}
-use Rattle.drive.specs.Calls as Calls
-use Rattle.rules.specs.World.{Core, numbers_from}
+use Rattle.rules.specs.World.{Core, numbers, numbers_from}
 use Rattle.rules.specs.Deeds.{starts, first_waypoint, beat, beats, wait}
 
--- the numbers that are left behind the first k of n, in any F
-pub at_numbers_more : {Y : Type 0} (F : List ℕ → Y) (k n : ℕ) → k < n → F (numbers_from (k + 1) (n - k)) ≡ F ((k + 1) ∷ numbers_from (k + 1 + 1) (n - (k + 1)))
-at_numbers_more F k n h =
-    let e : n - k ≡ suc (n - (k + 1)) = omega arith in
-    let next : suc (k + 1) ≡ k + 1 + 1 = omega arith in
-    ap (λ m. F (numbers_from (k + 1) m)) e ∙ ap (λ j. F ((k + 1) ∷ numbers_from j (n - (k + 1)))) next
+-- the numbers that are left, from i to n
+pub numbers_more : (i n : ℕ) → i ≤ n → numbers_from i (n + 1 - i) ≡ i ∷ numbers_from (i + 1) (n + 1 - (i + 1))
+numbers_more i n h =
+    let e : n + 1 - i ≡ suc (n + 1 - (i + 1)) = omega arith in
+    let next : suc i ≡ i + 1 = omega arith in
+    ap (numbers_from i) e ∙ ap (λ j. i ∷ numbers_from j (n + 1 - (i + 1))) next
 
-pub at_numbers_all : {Y : Type 0} (F : List ℕ → Y) (k n : ℕ) → n ≤ k → F (numbers_from (k + 1) (n - k)) ≡ F []
-at_numbers_all F k n h =
-    let e : n - k ≡ 0 = omega arith in
-    ap (λ m. F (numbers_from (k + 1) m)) e
+-- the numbers that a range has left, its end among them
+abbrev numbers_left : RangeInclusive ℕ → List ℕ
+numbers_left s = numbers_from (range_inclusive_start s) (range_inclusive_left (λ x y. y - x) s)
 
--- the starts that are left behind the first k
-pub starts_more : (q : Profile) (ns : List ℕ) (zs : List ℤ) (k : ℕ) (axes : List Axis) → k < length ns → k < length zs → replay (starts q (drop k ns) (drop k zs)) axes ≡ replay (starts q (drop (k + 1) ns) (drop (k + 1) zs)) (Calls.done (start (get_or ns k 0) (get_or zs k (pos 0)) q) axes)
-starts_more q ns zs k axes h j =
-    at_drop_more (λ ms. replay (starts q ms (drop k zs)) axes) ns k 0 h
-    ∙ at_drop_more (λ ys. replay (starts q (get_or ns k 0 ∷ drop (k + 1) ns) ys) axes) zs k (pos 0) j
+one_number : (i j n m : ℕ) (b : Bool) → m + 1 ≡ n → (b ≡ true → m ≡ 0) → (b ≡ false → j ≡ i + 1) → numbers_from i n ≡ i ∷ numbers_from j m
+one_number i j n m true e z f =
+    let d : n ≡ 1 = omega (arith, z refl) in
+    ap (numbers_from i) d ∙ ap (λ k. i ∷ numbers_from j k) (sym (z refl))
+one_number i j n m false e z f =
+    let d : n ≡ suc m = omega arith in
+    let next : suc i ≡ j = omega (arith, f refl) in
+    ap (numbers_from i) d ∙ ap (λ k. i ∷ numbers_from k m) next
 
-pub starts_none : (q : Profile) (ns : List ℕ) → starts q ns [] ≡ []
+pub range_yields : (s : RangeInclusive ℕ) (n : ℕ) → range_inclusive_start s ≡ 1 → range_inclusive_end s ≡ n → range_inclusive_exhausted s ≡ false → YieldsList (range_inclusive_steps (λ x y. y - x) (λ x y. y ≡ x + 1)) (λ x. x) s (numbers n)
+range_yields s n a b f =
+    let len = range_inclusive_len (λ x y. y - x) in
+    let l : range_inclusive_left (λ x y. y - x) s ≡ n = ap (len (range_inclusive_start s) (range_inclusive_end s)) f ∙ omega arith in
+    let e : numbers_left s ≡ numbers n = ap (λ i. numbers_from i (range_inclusive_left (λ x y. y - x) s)) a ∙ ap (numbers_from 1) l in
+    let P : List ℕ → Type 0 = λ xs. YieldsList (range_inclusive_steps (λ x y. y - x) (λ x y. y ≡ x + 1)) (λ x. x) s xs in
+    subst P e
+    (YieldsList-from_shown (range_inclusive_steps (λ x y. y - x) (λ x y. y ≡ x + 1)) (λ x. x) numbers_left
+    (λ s t h. ap (λ m. length (numbers_from (range_inclusive_start s) m)) h.1.0)
+    (λ s x t h. one_number (range_inclusive_start s) (range_inclusive_start t) _ _ (range_inclusive_exhausted t) h.1.1 (λ z. ap (len (range_inclusive_start t) (range_inclusive_end t)) z) h.1.2
+    ∙ ap (λ y. y ∷ numbers_left t) (sym h.1.0))
+    s)
+
+-- no starts are left, where as many are made as there are axes or positions
+starts_none : (q : Profile) (ns : List ℕ) → starts q ns [] ≡ []
 starts_none q [] = refl
 starts_none q (n ∷ ns) = refl
 
@@ -50,12 +66,7 @@ beats_more n i k h =
     let e : n - i ≡ suc (n - (i + 1)) = omega arith in
     ap (λ m. (beats m k).core) e
 
-pub beats_all : (n i : ℕ) (k : Core) → n ≤ i → (beats (n - i) k).core ≡ k
-beats_all n i k h =
-    let e : n - i ≡ 0 = omega arith in
-    ap (λ m. (beats m k).core) e
-
--- of a wait of n beats at most, i are made; the test passes now, or not, or no beat is left
+-- of a wait of n beats at most, i are made; the test passes now, or not
 pub wait_over : (n : ℕ) (done : Core → Bool) (k : Core) → done k ≡ true → (wait n (done k) done k).core ≡ k
 wait_over zero done k h = refl
 wait_over (suc n) done k h = ap (λ b. (wait (suc n) b done k).core) h
@@ -64,8 +75,3 @@ pub wait_more : (n i : ℕ) (done : Core → Bool) (k : Core) → i < n → done
 wait_more n i done k h f =
     let e : n - i ≡ suc (n - (i + 1)) = omega arith in
     ap (λ m. (wait m (done k) done k).core) e ∙ ap (λ b. (wait (suc (n - (i + 1))) b done k).core) f
-
-pub wait_all : (n i : ℕ) (done : Core → Bool) (k : Core) → n ≤ i → (wait (n - i) (done k) done k).core ≡ k
-wait_all n i done k h =
-    let e : n - i ≡ 0 = omega arith in
-    ap (λ m. (wait m (done k) done k).core) e

@@ -1,11 +1,10 @@
--- When a goal is reached. Assumes nothing.
-use Rattle.std.specs.Prelude.{Bool, true, false}
-use Rattle.rules.specs.World.{Core}
-use Rattle.rules.specs.Deeds.{still, group_still}
-use Rattle.motion.specs.declared.goal.Goal.{Goal}
-use Rattle.motion.specs.declared.goal.Goal.TheVariants.{Axis, Every, Group}
+-- What a test of desk and drive finds out. Assumes nothing.
+use Rattle.std.specs.Prelude.{◌≡◌, Bool, List}
+use Rattle.std.specs.Borrow.{Bor}
+use Rattle.drive.specs.Model.{Axis}
+use Rattle.rules.specs.World.{Core, core_of}
+use Rattle.desk.specs.declared.desk_state.Desk.{Desk}
 
-abbrev pub reached : Goal → Core → Bool
-reached (Axis n) = still false n
-reached Every = still true 0
-reached (Group g) = group_still g
+-- calls that answer whether the goal is reached; `axes` says what the drive means
+abbrev pub Tests : {D : Type 0} → (D → List Axis) → (Bor Desk → Bor D → Bool → Type 0) → (Core → Bool) → Type 0
+Tests {D} axes may goal = (d : Bor Desk) (e : Bor D) (r : Bool) → may d e r → r ≡ goal (core_of d.now (axes e.now))

@@ -1,10 +1,9 @@
--- What an order tells the drive of an axis. Assumes nothing.
-use Rattle.std.specs.Prelude.{ℕ}
-use Rattle.drive.specs.Calls.{Told, power_on, power_off, stop}
-use Rattle.motion.specs.declared.order.Order.{Order}
-use Rattle.motion.specs.declared.order.Order.TheVariants.{PowerOn, PowerOff, Stop}
+-- What a call tells a drive. Assumes nothing.
+use Rattle.std.specs.Prelude.{◌≡◌, ℕ, List}
+use Rattle.std.specs.Borrow.{MutBor}
+use Rattle.drive.specs.Model.{Axis}
+use Rattle.drive.specs.Calls.{Told, done}
 
-abbrev pub ordered : Order → ℕ → Told
-ordered PowerOn = power_on
-ordered PowerOff = power_off
-ordered Stop = stop
+-- calls after which the drive is as one told so of the axis n, whatever they answer; `axes` says what the drive means
+abbrev pub Tells : {D R : Type 0} → (D → List Axis) → (MutBor D → ℕ → R → MutBor D → Type 0) → (ℕ → Told) → Type 0
+Tells {D} {R} axes may told = (d : MutBor D) (n : ℕ) (r : R) (e : MutBor D) → may d n r e → axes e.now ≡ done (told n) (axes d.now)

@@ -11,33 +11,20 @@ use drive::Drive;
 pub fn all_rest<D: Drive>(drive: &D, members: &[u8]) -> bool
     ensures { result ≡ list_all (λ n. at_rest (row_or no_drive_axis n (D.Drive.axes drive.now))) members.now }
 {
-    for axis in members {
-        if !rests(drive, *axis as usize) {
-            return false;
-        }
-    }
-    true
+    members.iter().all(|axis| rests(drive, usize::from(*axis)))
 }
 
 pub fn all_powered<D: Drive>(drive: &D, members: &[u8]) -> bool
     ensures { result ≡ list_all (λ n. (row_or no_drive_axis n (D.Drive.axes drive.now)).powered) members.now }
 {
-    for axis in members {
-        if !powered(drive, *axis as usize) {
-            return false;
-        }
-    }
-    true
+    members
+        .iter()
+        .all(|axis| powered(drive, usize::from(*axis)))
 }
 
 /// The axes from 1 to `count`.
 pub fn every_rests<D: Drive>(drive: &D, count: usize) -> bool
     ensures { result ≡ list_all (λ n. at_rest (row_or no_drive_axis n (D.Drive.axes drive.now))) (numbers count) }
 {
-    for k in 0..count {
-        if !rests(drive, k + 1) {
-            return false;
-        }
-    }
-    true
+    (1..=count).all(|axis| rests(drive, axis))
 }

@@ -9,6 +9,7 @@ use desk::Desk;
 use drive::Drive;
 
 /// The first waypoint is taken out and started with the group's profile.
+#[tactic(auto, using(crate::proofs::Loops::none_first))]
 fn start_waypoint<D: Drive>(desk: &mut Desk, drive: &mut D, group: usize)
     ensures { core_of desk.new (D.Drive.axes drive.new) ≡ (Deeds.set_off true group (core_of desk.old (D.Drive.axes drive.old))).core }
 {
@@ -40,11 +41,12 @@ pub fn advance<D: Drive>(desk: &mut Desk, drive: &mut D, group: usize)
 }
 
 /// The groups from 1 to `count`, in number order.
+#[tactic(auto, using(crate::proofs::Loops::numbers_more))]
 fn advance_all<D: Drive>(desk: &mut Desk, drive: &mut D, count: usize)
     ensures { core_of desk.new (D.Drive.axes drive.new) ≡ (Deeds.advance_all (numbers count) (core_of desk.old (D.Drive.axes drive.old))).core }
 {
-    for k in 0..count {
-        advance(desk, drive, k + 1);
+    for group in 1..=count {
+        advance(desk, drive, group);
     }
 }
 
@@ -58,6 +60,7 @@ pub fn beat<D: Drive>(desk: &mut Desk, drive: &mut D)
 }
 
 /// So many beats.
+#[tactic(auto, using(crate::proofs::Loops::beats_more))]
 pub fn beats<D: Drive>(desk: &mut Desk, drive: &mut D, n: u32)
     ensures { core_of desk.new (D.Drive.axes drive.new) ≡ (Deeds.beats n (core_of desk.old (D.Drive.axes drive.old))).core }
 {

@@ -1,10 +1,10 @@
 // Drives told to start, stop and tick; groups and waits.
+// Desk and drive are two parameters wherever both may change: a struct that held two `&mut` would have to promise in each contract that
+// it still holds the same two, which is no plainer.
 #![tactic(auto)]
 
 mod asking;
 mod beating;
-mod goal;
-mod order;
 mod telling;
 mod waiting;
 

@@ -5,7 +5,4 @@ use Rattle.actions.proofs.performing.perform.Goals as goal
 
 pub act-requires : goal.act-requires
 act-requires g c =
-    record {
-      countable = c.requires.countable;
-      fits = accepted_fits c.args.desk.now (g.D.Drive.axes c.args.drive.now) c.in-Some.m (said c.args.command.now) c.settings_fit.ensures (g.met.D.Drive.sound c.args.drive.now) c.requires.accepted c.in-Some.is (sym c.if-not-asks.ensures);
-    }
+    accepted_fits c.args.desk.now (g.D.Drive.axes c.args.drive.now) c.in-Some.m (said c.args.command.now) c.settings_fit.ensures (g.met.D.Drive.sound c.args.drive.now) c.requires c.in-Some.is (sym c.if-not-asks.ensures)

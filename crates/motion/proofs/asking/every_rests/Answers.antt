@@ -1,18 +1,11 @@
-use Rattle.std.proofs.Common.{arith}
-use Rattle.std.proofs.lemmas.Bool.Decides.{nat_tests}
-use Rattle.std.specs.List.{list_all}
+use Rattle.std.proofs.Common.{rules, tests}
+use Rattle.std.proofs.lemmas.Iterator.Search.{all_from_yields_List}
 use Rattle.drive.specs.Model.{at_rest}
 use Rattle.desk.specs.Tables.{row_or}
 use Rattle.rules.specs.World.{no_drive_axis}
-use Rattle.motion.proofs.Loops.{at_numbers_more}
+use Rattle.motion.proofs.Loops.{range_yields}
 use Rattle.motion.proofs.asking.every_rests.Goals as goal
 
-pub returns-then-not-rests : goal.returns-then-not-rests
-returns-then-not-rests g c =
-    let s = at_numbers_more (list_all (λ n. at_rest (row_or no_drive_axis n (g.D.Drive.axes c.args.drive.now)))) c.loop-k.k c.args.count c.loop-k-test.true in
-    grind (arith, nat_tests)
-
-pub loop-k-preserved : goal.loop-k-preserved
-loop-k-preserved g c =
-    let s = at_numbers_more (list_all (λ n. at_rest (row_or no_drive_axis n (g.D.Drive.axes c.args.drive.now)))) c.loop-k.k c.args.count c.loop-k-test.true in
-    grind (arith, nat_tests)
+pub returns : goal.returns
+returns g c =
+    all_from_yields_List (λ n. at_rest (row_or no_drive_axis n (g.D.Drive.axes c.args.drive.now))) _ _ _ c.all.ensures.ran (range_yields c.new.result c.args.count c.new.ensures.start c.new.ensures.end c.new.ensures.exhausted) (λ x b q k. search (rules, tests))

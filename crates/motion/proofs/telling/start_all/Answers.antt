@@ -1,25 +1,13 @@
-use Rattle.std.proofs.Common.{◌≡◌, ◌+◌, get_or, drop, pos, sym, ap, ◌∙◌, arith, w32, SFits, rules}
-use Rattle.std.proofs.lemmas.Int.{to_z-of_z}
-use Rattle.drive.specs.Calls.{start, done, replay}
-use Rattle.rules.specs.Deeds.{starts}
-use Rattle.motion.proofs.Loops.{starts_more, starts_all}
+use Rattle.std.proofs.Common.{length, ap, sym, ◌∙◌, arith}
+use Rattle.std.proofs.lemmas.Slice.Zip.{zip_end}
+use Rattle.drive.specs.Calls.{replay}
+use Rattle.motion.proofs.Loops.{starts_all}
 use Rattle.motion.proofs.telling.start_all.Goals as goal
-
-pub loop-k-preserved : goal.loop-k-preserved
-loop-k-preserved g c =
-    let ns = c.args.members.now in
-    let zs = c.args.positions.now in
-    let q = c.args.profile in
-    let k = c.loop-k.k in
-    let axes = g.D.Drive.axes c.loop-k.drive in
-    let f : SFits w32 (get_or zs k (pos 0)) = search rules in
-    let e : g.D.Drive.axes c.start.new.self ≡ done (start (get_or ns k 0) (get_or zs k (pos 0)) q) axes =
-    ap (λ p. p.1) c.start.ensures ∙ ap (λ z. done (start (get_or ns k 0) z q) axes) (to_z-of_z w32 (get_or zs k (pos 0)) f) in
-    ap (replay (starts q (drop (k + 1) ns) (drop (k + 1) zs))) e ∙ sym (starts_more q ns zs k axes (omega arith) (omega arith)) ∙ c.loop-k.invariant
 
 pub returns : goal.returns
 returns g c =
     let ns = c.args.members.now in
     let zs = c.args.positions.now in
-    let axes = g.D.Drive.axes c.loop-k.drive in
-    sym (ap (λ ts. replay ts axes) (starts_all c.args.profile ns zs c.loop-k.k (omega arith))) ∙ c.loop-k.invariant
+    let axes = g.D.Drive.axes c.loop-axis.drive in
+    let e = zip_end ns zs c.loop-axis.yielded c.into_iter-axis-iterator.result c.loop-axis.axis-iterator c.next.new.self _ (cc) (cc) c.loop-axis.yielded_by c.in-None.is c.next.ensures.steps in
+    sym (ap (λ ts. replay ts axes) (starts_all c.args.profile ns zs (length c.loop-axis.yielded) (omega (arith, e)))) ∙ c.loop-axis.invariant
