@@ -1,5 +1,4 @@
 // Whether the figure that a command sets is in its range: each rule in a function of its own.
 #![tactic(auto)]
 
-mod figure;
 pub mod ranges;

@@ -24,9 +24,5 @@ pub fn test_where(
 ) -> Result<(), ErrorEntry>
     ensures { result ≡ judged (where_so applies (needs passes (entry fault column) ∷ [])) }
 {
-    if applies {
-        test(passes, fault, column)
-    } else {
-        Ok(())
-    }
+    test(!applies || passes, fault, column)
 }

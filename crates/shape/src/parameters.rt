@@ -1,8 +1,8 @@
 // Whether the command has the parameters that it takes.
-ghost use Rattle.std.specs.Prelude.{◌≡◌, true, not, ◌&&◌, ◌||◌, [], ◌∷◌, length, is_some, nat_le};
-ghost use Rattle.command.specs.Views.{seen, said, countable};
+ghost use Rattle.std.specs.Prelude.{◌≡◌, not, ◌&&◌, ◌||◌, [], ◌∷◌, length, is_some, nat_le};
+ghost use Rattle.command.specs.Views.{seen as read, said};
 ghost use Rattle.number.specs.Decimals.{read_decimal};
-ghost use Rattle.rules.specs.World.{core_of};
+ghost use Rattle.asked.specs.Seen.{seen};
 ghost use Rattle.command.specs.declared.mnemonic.Mnemonic.TheVariants.{Wt};
 ghost use Rattle.queue.specs.declared.fault.Fault.TheVariants.{ParameterOutOfRange};
 ghost use Rattle.rules.specs.Kinds.{is};
@@ -11,121 +11,98 @@ ghost use Rattle.shape.specs.Verdicts.{judged};
 
 use crate::entry::{test, test_where};
 use crate::naming::members_named;
+use asked::Case;
 use asked::kinds::{needs_one, offers_question, sets_group_figure, takes_one};
 use asked::values::{parameter_count, value, whole_within};
 use command::command::Command;
 use command::mnemonic::Mnemonic;
 use command::text::Field;
-use desk::Desk;
+use drive::Drive;
 use number::decimal::read_decimal;
 use queue::{ErrorEntry, Fault};
 
 /// Whether the command takes a parameter in the place `i`, counted from 0; HN takes any number.
-fn is_allowed(desk: &Desk, m: Mnemonic, command: &Command, i: usize) -> bool
-    ensures { result ≡ R.allowed (core_of desk.now []) m (said command.now) i }
+fn is_allowed<D: Drive>(case: &Case<D>, i: usize) -> bool
+    ensures { result ≡ R.allowed (seen D.Drive.axes case.now.view) case.now.m (said case.now.command.now) i }
 {
-    matches!(m, Mnemonic::Hn)
-        || (matches!(m, Mnemonic::Hl) && i < members_named(desk, command).count())
-        || (takes_one(m) && i < 1)
+    matches!(case.m, Mnemonic::Hn)
+        || (matches!(case.m, Mnemonic::Hl) && i < members_named(case).count())
+        || (takes_one(case.m) && i < 1)
 }
 
 /// Whether a parameter is blank.
 fn is_blank(field: &Field) -> bool
-    ensures { result ≡ R.blank_field (seen field.now) }
+    ensures { result ≡ R.blank_field (read field.now) }
 {
     field.text().bytes.is_empty()
 }
 
 /// Whether a parameter is a decimal.
 fn is_decimal(field: &Field) -> bool
-    ensures { result ≡ is_some (read_decimal (seen field.now).bytes) }
+    ensures { result ≡ is_some (read_decimal (read field.now).bytes) }
 {
     read_decimal(field.text().bytes).is_some()
 }
 
 /// Whether a parameter is one of WT that is not whole from 0 to 60,000.
 fn is_wrong_wait(m: Mnemonic, field: &Field) -> bool
-    ensures { result ≡ (is m Wt && not (R.whole_within 0 60000 (R.value (seen field.now)))) }
+    ensures { result ≡ (is m Wt && not (R.whole_within 0 60000 (R.value (read field.now)))) }
 {
     matches!(m, Mnemonic::Wt) && !whole_within(0, 60_000, value(field))
 }
 
 /// Whether a parameter that is not blank offends: it is no decimal, or needless, or one of WT out of range.
-fn offends(desk: &Desk, m: Mnemonic, command: &Command, i: usize, field: &Field) -> bool
-    ensures { result ≡ R.offends (core_of desk.now []) m (said command.now) i (seen field.now) }
+fn offends<D: Drive>(case: &Case<D>, i: usize, field: &Field) -> bool
+    ensures { result ≡ R.offends (seen D.Drive.axes case.now.view) case.now.m (said case.now.command.now) i (read field.now) }
 {
-    !is_decimal(field) || !is_allowed(desk, m, command, i) || is_wrong_wait(m, field)
+    !is_decimal(field) || !is_allowed(case, i) || is_wrong_wait(case.m, field)
 }
 
 /// Whether a parameter passes that may be blank: what is not blank must not offend.
-fn passes_unblank(
-    desk: &Desk,
-    m: Mnemonic,
-    command: &Command,
-    i: usize,
-    field: &Field,
-) -> Result<(), ErrorEntry>
-    ensures { result ≡ judged (R.needs (R.blank_field (seen field.now) || not (R.offends (core_of desk.now []) m (said command.now) i (seen field.now))) (R.entry ParameterOutOfRange (seen field.now).column) ∷ []) }
+fn passes_unblank<D: Drive>(case: &Case<D>, i: usize, field: &Field) -> Result<(), ErrorEntry>
+    ensures { result ≡ judged (R.needs (R.blank_field (read field.now) || not (R.offends (seen D.Drive.axes case.now.view) case.now.m (said case.now.command.now) i (read field.now))) (R.entry ParameterOutOfRange (read field.now).column) ∷ []) }
 {
     test(
-        is_blank(field) || !offends(desk, m, command, i, field),
+        is_blank(field) || !offends(case, i, field),
         Fault::ParameterOutOfRange,
         field.text().column,
     )
 }
 
 /// The first parameter from the left that is not blank and offends.
-fn unblank_pass(desk: &Desk, m: Mnemonic, command: &Command) -> Result<(), ErrorEntry>
-    requires { countable command.now ≡ true }
-    ensures { result ≡ judged (R.unblank_pass (core_of desk.now []) m (said command.now) 0 (said command.now).parameters) }
+fn unblank_pass<D: Drive>(case: &Case<D>) -> Result<(), ErrorEntry>
+    ensures { result ≡ judged (R.unblank_pass (seen D.Drive.axes case.now.view) case.now.m (said case.now.command.now) 0 (said case.now.command.now).parameters) }
 {
-    let mut given = command.parameters();
-    let mut i = 0;
-    while let Some(field) = given.next_parameter() {
-        passes_unblank(desk, m, command, i, &field)?;
-        i += 1;
-    }
-    Ok(())
+    let mut given = case.command.parameters().enumerate();
+    given.try_for_each(|(i, field)| passes_unblank(case, i, &field))
 }
 
 /// Whether a blank parameter stands where the command takes one.
-fn passes_blank(
-    desk: &Desk,
-    m: Mnemonic,
-    command: &Command,
-    i: usize,
-    field: &Field,
-) -> Result<(), ErrorEntry>
-    ensures { result ≡ judged (R.needs (not (R.blank_field (seen field.now)) || R.allowed (core_of desk.now []) m (said command.now) i) (R.entry ParameterOutOfRange (said command.now).column) ∷ []) }
+fn passes_blank<D: Drive>(case: &Case<D>, i: usize, field: &Field) -> Result<(), ErrorEntry>
+    ensures { result ≡ judged (R.needs (not (R.blank_field (read field.now)) || R.allowed (seen D.Drive.axes case.now.view) case.now.m (said case.now.command.now) i) (R.entry ParameterOutOfRange (said case.now.command.now).column) ∷ []) }
 {
     test(
-        !is_blank(field) || is_allowed(desk, m, command, i),
+        !is_blank(field) || is_allowed(case, i),
         Fault::ParameterOutOfRange,
-        command.column,
+        case.command.column,
     )
 }
 
 /// A blank parameter that is needless.
-fn blank_pass(desk: &Desk, m: Mnemonic, command: &Command) -> Result<(), ErrorEntry>
-    requires { countable command.now ≡ true }
-    ensures { result ≡ judged (R.blank_pass (core_of desk.now []) m (said command.now) 0 (said command.now).parameters) }
+fn blank_pass<D: Drive>(case: &Case<D>) -> Result<(), ErrorEntry>
+    ensures { result ≡ judged (R.blank_pass (seen D.Drive.axes case.now.view) case.now.m (said case.now.command.now) 0 (said case.now.command.now).parameters) }
 {
-    let mut given = command.parameters();
-    let mut i = 0;
-    while let Some(field) = given.next_parameter() {
-        passes_blank(desk, m, command, i, &field)?;
-        i += 1;
-    }
-    Ok(())
+    let mut given = case.command.parameters().enumerate();
+    given.try_for_each(|(i, field)| passes_blank(case, i, &field))
 }
 
 /// A question mark that is not offered.
-fn question_pass(m: Mnemonic, command: &Command) -> Result<(), ErrorEntry>
-    ensures { result ≡ judged (R.question_pass m (said command.now).question) }
+fn question_pass<D>(case: &Case<D>) -> Result<(), ErrorEntry>
+    ensures { result ≡ judged (R.question_pass case.now.m (said case.now.command.now).question) }
 {
-    match command.question() {
+    match case.command.question() {
         Some(field) => test(
-            offers_question(m),
+            offers_question(case.m),
             Fault::ParameterOutOfRange,
             field.text().column,
         ),
@@ -135,72 +112,61 @@ fn question_pass(m: Mnemonic, command: &Command) -> Result<(), ErrorEntry>
 
 /// Whether there is a parameter where one is wanted, and the fault where there is none.
 fn some_parameter(wanted: bool, command: &Command, fault: Fault) -> Result<(), ErrorEntry>
-    requires { countable command.now ≡ true }
     ensures { result ≡ judged (R.where_so wanted (R.needs (not (R.no_parameters (said command.now))) (R.entry fault (said command.now).column) ∷ [])) }
 {
     test_where(wanted, parameter_count(command) != 0, fault, command.column)
 }
 
 /// 7: a parameter offends, or a question mark is not offered, or HV, HA or HD has none.
-pub fn parameter_out(desk: &Desk, m: Mnemonic, command: &Command) -> Result<(), ErrorEntry>
-    requires { countable command.now ≡ true }
-    ensures { result ≡ judged (R.parameter_out (core_of desk.now []) m (said command.now)) }
+#[tactic(auto, using(crate::proofs::Chains::in_order))]
+pub fn parameter_out<D: Drive>(case: &Case<D>) -> Result<(), ErrorEntry>
+    ensures { result ≡ judged (R.parameter_out (seen D.Drive.axes case.now.view) case.now.m (said case.now.command.now)) }
 {
-    unblank_pass(desk, m, command)?;
-    question_pass(m, command)?;
-    blank_pass(desk, m, command)?;
-    some_parameter(sets_group_figure(m), command, Fault::ParameterOutOfRange)
+    unblank_pass(case)?;
+    question_pass(case)?;
+    blank_pass(case)?;
+    some_parameter(
+        sets_group_figure(case.m),
+        case.command,
+        Fault::ParameterOutOfRange,
+    )
 }
 
 /// 38: a needed parameter is missing.
-pub fn parameter_missing(m: Mnemonic, command: &Command) -> Result<(), ErrorEntry>
-    requires { countable command.now ≡ true }
-    ensures { result ≡ judged (R.parameter_missing m (said command.now)) }
+pub fn parameter_missing<D>(case: &Case<D>) -> Result<(), ErrorEntry>
+    ensures { result ≡ judged (R.parameter_missing case.now.m (said case.now.command.now)) }
 {
-    some_parameter(needs_one(m), command, Fault::ParameterMissing)
+    some_parameter(needs_one(case.m), case.command, Fault::ParameterMissing)
 }
 
 /// Whether no parameter is blank.
 fn none_blank(command: &Command) -> bool
-    requires { countable command.now ≡ true }
     ensures { result ≡ R.none_blank (said command.now).parameters }
 {
-    let mut given = command.parameters();
-    while let Some(field) = given.next_parameter() {
-        if is_blank(&field) {
-            return false;
-        }
-    }
-    true
+    command.parameters().all(|field| !is_blank(&field))
 }
 
 /// Whether there are so many parameters, and none is blank.
 fn enough(command: &Command, least: usize) -> bool
-    requires { countable command.now ≡ true }
     ensures { result ≡ (nat_le least (length (said command.now).parameters) && R.none_blank (said command.now).parameters) }
 {
     least <= parameter_count(command) && none_blank(command)
 }
 
 /// 29: HN has fewer than two, HL fewer than members, or either has a blank one.
-pub fn group_parameter_missing(
-    desk: &Desk,
-    m: Mnemonic,
-    command: &Command,
-) -> Result<(), ErrorEntry>
-    requires { countable command.now ≡ true }
-    ensures { result ≡ judged (R.group_parameter_missing (core_of desk.now []) m (said command.now)) }
+pub fn group_parameter_missing<D: Drive>(case: &Case<D>) -> Result<(), ErrorEntry>
+    ensures { result ≡ judged (R.group_parameter_missing (seen D.Drive.axes case.now.view) case.now.m (said case.now.command.now)) }
 {
     test_where(
-        matches!(m, Mnemonic::Hn),
-        enough(command, 2),
+        matches!(case.m, Mnemonic::Hn),
+        enough(case.command, 2),
         Fault::GroupParameterMissing,
-        command.column,
+        case.command.column,
     )?;
     test_where(
-        matches!(m, Mnemonic::Hl),
-        enough(command, members_named(desk, command).count()),
+        matches!(case.m, Mnemonic::Hl),
+        enough(case.command, members_named(case).count()),
         Fault::GroupParameterMissing,
-        command.column,
+        case.command.column,
     )
 }

@@ -1,22 +1,15 @@
-use Rattle.std.proofs.Common.{[], sym, refl, ◌∙◌}
-use Rattle.command.specs.Views.{seen, said, to_give}
+use Rattle.std.proofs.Common.{rules}
+use Rattle.command.specs.Views.{seen as read, said, to_give}
+use Rattle.asked.specs.Seen.{seen}
+use Rattle.rules.specs.Refusals as R
+use Rattle.std.proofs.lemmas.Iterator.Consumers.{YieldsList-from_first}
 use Rattle.queue.specs.declared.fault.Fault.TheVariants.{GroupAxisOutOfRange}
-use Rattle.rules.specs.World.{core_of, axis_count}
-use Rattle.rules.specs.Refusals.{needs, entry, whole_within, value, each_axis}
-use Rattle.shape.proofs.Chains.{walk_on, walk_off, broken}
+use Rattle.rules.specs.World.{axis_count}
+use Rattle.shape.proofs.Walks.{judged_map}
 use Rattle.checks.proofs.forming.each_axis.Goals as goal
 
-pub returns-in_err-is_axis : goal.returns-in_err-is_axis
-returns-in_err-is_axis c =
-    let k = core_of c.args.desk.now [] in
-    let f = seen c.in-Some.field in
-    let more = to_give c.next_parameter.new.self in
-    broken c.from_residual.result c.from_residual.ensures.1
-    ∙ sym (walk_off (each_axis k) (each_axis k (said c.args.command.now).parameters) (to_give c.loop-field.given) f more (needs (whole_within 1 (axis_count k) (value f)) (entry GroupAxisOutOfRange f.column)) (each_axis k more) c.loop-field.invariant c.in-Some.ensures.next refl (sym c.is_axis.ensures ∙ c.in_err-is_axis.was))
-
-pub loop-field-preserved : goal.loop-field-preserved
-loop-field-preserved c =
-    let k = core_of c.args.desk.now [] in
-    let f = seen c.in-Some.field in
-    let more = to_give c.next_parameter.new.self in
-    walk_on (each_axis k) (each_axis k (said c.args.command.now).parameters) (to_give c.loop-field.given) f more (needs (whole_within 1 (axis_count k) (value f)) (entry GroupAxisOutOfRange f.column)) (each_axis k more) c.loop-field.invariant c.in-Some.ensures.next refl (sym c.is_axis.ensures ∙ c.in_ok-is_axis.was)
+pub returns : goal.returns
+returns g c =
+    let k = seen g.D.Drive.axes c.args.case.now.view in
+    let ps = (said c.args.case.now.command.now).parameters in
+    judged_map (YieldsList-from_first read to_give ps c.parameters-given.ensures.all) _ (λ f. R.needs (R.whole_within 1 (axis_count k) (R.value f)) (R.entry GroupAxisOutOfRange f.column)) (λ x b q r. search rules) c.try_for_each.ensures.ran

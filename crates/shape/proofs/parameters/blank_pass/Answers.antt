@@ -1,34 +1,19 @@
-use Rattle.std.proofs.Common.{suc, not, ◌||◌, [], sym, refl, ap, ◌∙◌, arith}
-use Rattle.command.specs.Views.{seen, said, to_give}
+use Rattle.std.proofs.Common.{ℕ, not, ◌||◌, List, [], ◌∷◌, refl, ap, ◌∙◌, rules}
+use Rattle.std.proofs.lemmas.Iterator.Consumers.{YieldsList-from_first, YieldsList-from_enumerate}
+use Rattle.command.specs.Commands.{Field}
+use Rattle.command.specs.Views.{seen as read, said, to_give}
 use Rattle.queue.specs.declared.fault.Fault.TheVariants.{ParameterOutOfRange}
-use Rattle.rules.specs.World.{core_of}
+use Rattle.asked.specs.Seen.{seen}
 use Rattle.rules.specs.Refusals as R
 use Rattle.shape.specs.Verdicts.{judged}
-use Rattle.shape.proofs.Chains.{walk_on, walk_off, broken}
+use Rattle.shape.proofs.Walks.{judged_each, numbered}
 use Rattle.shape.proofs.parameters.blank_pass.Goals as goal
 
-pub returns-in_err-passes_blank : goal.returns-in_err-passes_blank
-returns-in_err-passes_blank c =
-    let k = core_of c.args.desk.now [] in
-    let m = c.args.m in
-    let s = said c.args.command.now in
-    let i = c.loop-field.i in
-    let f = seen c.in-Some.field in
-    let more = to_give c.next_parameter.new.self in
-    let told = sym c.passes_blank.ensures ∙ c.in_err-passes_blank.was in
-    broken c.from_residual.result c.from_residual.ensures.1
-    ∙ sym (walk_off (R.blank_pass k m s i) (R.blank_pass k m s 0 s.parameters) (to_give c.loop-field.given) f more (R.needs (not (R.blank_field f) || R.allowed k m s i) (R.entry ParameterOutOfRange s.column)) (R.blank_pass k m s (suc i) more) c.loop-field.invariant.0 c.in-Some.ensures.next refl told)
-
-pub loop-field-preserved : goal.loop-field-preserved
-loop-field-preserved c =
-    let k = core_of c.args.desk.now [] in
-    let m = c.args.m in
-    let s = said c.args.command.now in
-    let i = c.loop-field.i in
-    let f = seen c.in-Some.field in
-    let more = to_give c.next_parameter.new.self in
-    let told = sym c.passes_blank.ensures ∙ c.in_ok-passes_blank.was in
-    let on = walk_on (R.blank_pass k m s i) (R.blank_pass k m s 0 s.parameters) (to_give c.loop-field.given) f more (R.needs (not (R.blank_field f) || R.allowed k m s i) (R.entry ParameterOutOfRange s.column)) (R.blank_pass k m s (suc i) more) c.loop-field.invariant.0 c.in-Some.ensures.next refl told in
-    let fewer = c.in-Some.ensures.less in
-    let short = c.loop-field.invariant.1 in
-    (ap (λ j. judged (R.blank_pass k m s j more)) (omega arith) ∙ on, omega arith)
+pub returns : goal.returns
+returns g c =
+    let k = seen g.D.Drive.axes c.args.case.now.view in
+    let m = c.args.case.now.m in
+    let s = said c.args.case.now.command.now in
+    let one : ℕ × Field → List R.Test = λ p. R.needs (not (R.blank_field p.1) || R.allowed k m s p.0) (R.entry ParameterOutOfRange s.column) ∷ [] in
+    let road = YieldsList-from_enumerate (YieldsList-from_first read to_give s.parameters (ap to_give c.enumerate-given.ensures.source ∙ c.parameters.ensures.all)) c.enumerate-given.ensures.count in
+    judged_each road _ one (λ x b q r. search rules) c.try_for_each.ensures.ran ∙ ap judged (numbered one (R.blank_pass k m s) (λ i. refl) (λ i f fs. refl) 0 s.parameters)
