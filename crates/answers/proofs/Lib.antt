@@ -1,4 +1,3 @@
-pub mod Fronts
 pub mod Counts
 pub mod Joins
 pub mod Widths

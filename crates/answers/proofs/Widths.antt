@@ -1,11 +1,7 @@
 -- How long texts are at most.
-use Rattle.std.proofs.Common.{◌≡◌, ℕ, suc, ◌+◌, ◌-◌, ◌*◌, ◌/◌, ◌%◌, ◌^◌, ◌<◌, ◌≤◌, Bool, true, false, eqb, List, [], ◌∷◌, map, length, get_or, ℤ, pos, nat_abs, Some, None, Option, suc-mul, arith}
-use lib.Signed.{lt_z}
+use Rattle.std.proofs.Common.{◌≡◌, ℕ, suc, ◌+◌, ◌*◌, ◌<◌, ◌≤◌, Bool, true, false, List, [], ◌∷◌, map, length, get_or, Some, None, Option, suc-mul, arith}
 use Rattle.std.proofs.lemmas.List.{length-append, length-take}
-use Rattle.std.proofs.lemmas.Bool.{cond_both}
-use Rattle.number.specs.Texts.{whole_text, last_digits, point, fixed, when, shortened, setting_text, after_comma, list_text}
-use Rattle.number.proofs.Spelled.{length_last}
-use Rattle.number.proofs.Again.{shortened_worth, split_worth}
+use Rattle.number.specs.Texts.{whole_text, after_comma, list_text}
 use Rattle.number.proofs.Lengths.{whole_short}
 use Rattle.queue.specs.declared.error_entry.ErrorEntry.{ErrorEntry}
 use Rattle.queue.specs.declared.fault.Fault.{Fault}
@@ -16,32 +12,14 @@ use Rattle.desk.specs.declared.axis_settings.AxisSettings.{AxisSettings}
 use Rattle.desk.specs.Axes.{name_text}
 use Rattle.rules.specs.Replies.{flag_text, oldest, code_text, message_text}
 
-point_short : (k f : ℕ) → length (point k f) ≤ k + 1
-point_short k f = cond_both (eqb k 0) [] (46 ∷ last_digits k f) (λ l. length l ≤ k + 1) (λ t. omega arith) (λ t. omega (arith, length_last k f))
-
-when_short : (b : Bool) (c : ℕ) → length (when b c) ≤ 1
-when_short b c = cond_both b (c ∷ []) [] (λ l. length l ≤ 1) (λ t. omega arith) (λ t. omega arith)
-
--- four digits, a point and at most six
-fixed_short : (k n : ℕ) → k ≤ 6 → n * 10 ^ (6 - k) < 10000000000 → length (fixed k n) ≤ 11
-unfolding fixed
-fixed_short k n six low =
-    let worth = split_worth k n six in
-    let whole = whole_short 4 (n / 10 ^ k) (omega arith) (omega arith) (omega arith) in
-    simp length-append (omega (arith, point_short k (n % 10 ^ k)))
-
--- a setting of 32 bits
-pub setting_short : (z : ℤ) → nat_abs z < 4294967296 → length (setting_text z) ≤ 12
-unfolding setting_text
-setting_short z low =
-    let same = shortened_worth 6 (nat_abs z) (omega arith) in
-    let text = fixed_short (shortened 6 (nat_abs z)).0 (shortened 6 (nat_abs z)).1 same.0 (omega (arith, same.1)) in
-    simp length-append (omega (arith, when_short (lt_z z (pos 0)) 45))
-
 -- a flag is one digit
 pub flag_short : (b : Bool) → length (flag_text b) ≤ 1
 flag_short true = whole_short 1 1 (omega arith) (omega arith) (omega arith)
 flag_short false = whole_short 1 0 (omega arith) (omega arith) (omega arith)
+
+-- a number of 16 bits has at most five digits
+pub number_short : (n : ℕ) → n < 65536 → length (whole_text n) ≤ 5
+number_short n low = whole_short 5 n (omega arith) (omega arith) (omega arith)
 
 -- a name that lies in 32 bytes
 pub name_short : (r a : AxisSettings) → r ≡ a → length a.name ≤ 32 → length (name_text r) ≤ 32

@@ -2,11 +2,9 @@
 #![tactic(auto)]
 
 mod answer;
-mod axis_texts;
 mod error_texts;
-mod facts;
-mod group_texts;
-mod place_lists;
+mod found;
+mod places;
 mod plain;
 mod replying;
 

@@ -10,7 +10,7 @@ use crate::line_done::LineDone;
 use crate::matching::matches;
 use command::line::first_line;
 use drive::Drive;
-use engine::{nothing_written, run_line};
+use engine::run_line;
 use motion::beats;
 use queue::{ErrorEntry, Fault, Refusal};
 
@@ -25,13 +25,13 @@ const MOST: u32 = 60_000;
 
 impl Console {
     /// Runs the commands of a line that was found. Over 80 bytes none is run, and that the line is too long is noted.
+    #[tactic(auto, using(number::proofs::Written::write_nothing))]
     fn run<D: Drive>(&mut self, drive: &mut D, line: &[u8], reply: &mut [u8]) -> usize
         ensures world { world self.new (D.Drive.axes drive.new) ≡ line_world (world self.old (D.Drive.axes drive.old)) line.now (too_long line.now) }
         ensures reply { (result, reply.new) ≡ write reply.old 0 (all_replies (line_outcomes (world self.old (D.Drive.axes drive.old)) line.now (too_long line.now))) }
         ensures whole { 4096 ≤ length reply.old → Whole (all_replies (line_outcomes (world self.old (D.Drive.axes drive.old)) line.now (too_long line.now))) result reply.new }
     {
         if line.len() > LONGEST {
-            nothing_written(reply, 0);
             self.state.errors.push(ErrorEntry {
                 fault: Fault::LineTooLong,
                 column: 1,
@@ -76,7 +76,7 @@ impl Console {
         if !matches(&self.state.desk, drive) {
             return Err(Refusal::DriveMismatch);
         }
-        if count < 1 || count > MOST {
+        if !(1..=MOST).contains(&count) {
             return Err(Refusal::TickCount);
         }
         beats(&mut self.state.desk, drive, count);
@@ -87,9 +87,6 @@ impl Console {
     pub fn error(&self, n: usize) -> Result<ErrorEntry, Refusal>
         ensures { entry_answer result ≡ error_call (world self.now []) n }
     {
-        match self.state.errors.nth(n) {
-            Some(entry) => Ok(entry),
-            None => Err(Refusal::NoSuchError),
-        }
+        self.state.errors.nth(n).ok_or(Refusal::NoSuchError)
     }
 }

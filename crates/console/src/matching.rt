@@ -1,4 +1,4 @@
-// Whether a desk and a drive go together.
+// Whether a desk and a drive go together. They stay two parameters: callers hold the drive by `&mut`, and a `View` would be made at each call.
 ghost use Rattle.std.specs.Prelude.{◌≡◌, ◌&&◌, int_le};
 ghost use Rattle.desk.specs.Tables.{row_or};
 ghost use Rattle.desk.specs.Axes.{no_axis};
@@ -32,15 +32,7 @@ pub(crate) fn matches<D: Drive>(desk: &Desk, drive: &D) -> bool
     ensures { result ≡ C.matches (model_of desk.now).axes (D.Drive.axes drive.now) }
 {
     let count = desk.axis_count();
-    if count != drive.axis_count() {
-        return false;
-    }
-    for k in 0..count {
-        if !limits_reach(desk, drive, k + 1) {
-            return false;
-        }
-    }
-    true
+    count == drive.axis_count() && (1..=count).all(|axis| limits_reach(desk, drive, axis))
 }
 
 /// Whether every position lies within its limits.
@@ -48,10 +40,5 @@ pub(crate) fn all_placed<D: Drive>(desk: &Desk, drive: &D) -> bool
     ensures { result ≡ C.placed (model_of desk.now).axes (D.Drive.axes drive.now) }
 {
     let pairs = desk.axis_count().min(drive.axis_count());
-    for k in 0..pairs {
-        if !is_placed(desk, drive, k + 1) {
-            return false;
-        }
-    }
-    true
+    (1..=pairs).all(|axis| is_placed(desk, drive, axis))
 }

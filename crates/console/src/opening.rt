@@ -13,7 +13,7 @@ use queue::Refusal;
 use setup::{Setup, decode};
 
 impl Console {
-    /// A console that was never opened: it has no axes.
+    /// A console that was never opened: it has no axes. No `Default` beside it: nothing generic makes one.
     pub fn new() -> Console
         ensures { (axes : List Axis) → world result axes ≡ unopened axes }
     {

@@ -1,38 +1,23 @@
-use Rattle.std.proofs.Common.{◌≡◌, ◌+◌, ◌&&◌, length, drop, sym, ap, ◌∙◌, arith}
+use Rattle.std.proofs.Common.{◌≡◌, false, length, nat_eq, sym, ◌∙◌, rules, tests, arith}
+use Rattle.std.proofs.lemmas.Bool.Decides.{nat_tests}
+use Rattle.std.proofs.lemmas.Iterator.Search.{all_from_yields_List}
 use Rattle.desk.specs.Desks.{model_of}
-use Rattle.rules.specs.Calls.{matches}
-use Rattle.console.proofs.Pairs.{matches_length, matches_more, matches_all}
+use Rattle.motion.proofs.Loops.{range_yields}
+use Rattle.console.proofs.Pairs.{reached, matches_length, matches_each}
 use Rattle.console.proofs.matching.matches.Goals as goal
 
 pub returns-then-count-axis_count : goal.returns-then-count-axis_count
 returns-then-count-axis_count g c =
-    sym (matches_length (model_of c.args.desk.now).axes (g.D.Drive.axes c.args.drive.now) (λ e. c.if-count-axis_count.true (c.axis_count-count.ensures.value ∙ (e ∙ sym c.axis_count.ensures))))
-
-pub returns-then-not-limits_reach : goal.returns-then-not-limits_reach
-returns-then-not-limits_reach g c =
     let ss = (model_of c.args.desk.now).axes in
     let axes = g.D.Drive.axes c.args.drive.now in
-    let k = c.loop-k.k in
+    let n = c.axis_count-count.result in
     let size = c.axis_count-count.ensures.value in
-    let same : length ss ≡ length axes = sym size ∙ (c.if-count-axis_count.false ∙ c.axis_count.ensures) in
-    let here = matches_more ss axes k (omega (arith, size, c.loop-k-test.true)) (omega (arith, size, same, c.loop-k-test.true)) in
-    ap (λ b. b && matches (drop (k + 1) ss) (drop (k + 1) axes)) c.if-not-limits_reach.ensures ∙ (sym here ∙ c.loop-k.invariant)
+    let same : length ss ≡ length axes = sym size ∙ (c.if-count-axis_count.true ∙ c.axis_count.ensures) in
+    all_from_yields_List (reached ss axes) _ _ _ c.all.ensures.ran (range_yields c.new.result n c.new.ensures.start c.new.ensures.end c.new.ensures.exhausted) (λ x b q k. search (rules, tests))
+    ∙ matches_each ss axes n 0 same (omega (arith, size))
 
-pub loop-k-preserved : goal.loop-k-preserved
-loop-k-preserved g c =
-    let ss = (model_of c.args.desk.now).axes in
-    let axes = g.D.Drive.axes c.args.drive.now in
-    let k = c.loop-k.k in
-    let size = c.axis_count-count.ensures.value in
-    let same : length ss ≡ length axes = sym size ∙ (c.if-count-axis_count.false ∙ c.axis_count.ensures) in
-    let here = matches_more ss axes k (omega (arith, size, c.loop-k-test.true)) (omega (arith, size, same, c.loop-k-test.true)) in
-    ap (λ b. b && matches (drop (k + 1) ss) (drop (k + 1) axes)) c.if-not-limits_reach.ensures ∙ (sym here ∙ c.loop-k.invariant)
-
-pub returns : goal.returns
-returns g c =
-    let ss = (model_of c.args.desk.now).axes in
-    let axes = g.D.Drive.axes c.args.drive.now in
-    let k = c.loop-k.k in
-    let size = c.axis_count-count.ensures.value in
-    let same : length ss ≡ length axes = sym size ∙ (c.if-count-axis_count.false ∙ c.axis_count.ensures) in
-    sym (matches_all ss axes k same (omega (arith, size, c.loop-k-test.false))) ∙ c.loop-k.invariant
+pub returns-else-count-axis_count : goal.returns-else-count-axis_count
+returns-else-count-axis_count g c =
+    let apart = c.if-count-axis_count.false in
+    let no : nat_eq c.axis_count-count.result c.axis_count.result ≡ false = grind (arith, nat_tests) in
+    no ∙ sym (matches_length (model_of c.args.desk.now).axes (g.D.Drive.axes c.args.drive.now) (λ e. apart (c.axis_count-count.ensures.value ∙ (e ∙ sym c.axis_count.ensures))))

@@ -1,8 +1,0 @@
-use Rattle.std.proofs.Common.{◌≡◌, drop}
-use Rattle.desk.specs.Desks.{model_of}
-use Rattle.rules.specs.Calls.{matches}
-use Rattle.console.proofs.matching.matches.Given as goal
-
--- the axes left decide as all do
-abbrev pub invariant-loop-k : goal.invariant-loop-k
-invariant-loop-k g l = matches (drop l.k (model_of l.desk).axes) (drop l.k (g.D.Drive.axes l.drive)) ≡ matches (model_of l.desk).axes (g.D.Drive.axes l.drive)
