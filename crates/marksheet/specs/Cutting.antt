@@ -1,5 +1,5 @@
 -- The lines of a text, which end with LF (byte 10), with CR (byte 13) or with CR and LF. Assumes nothing.
-use Rattle.std.specs.Prelude.{ℕ, Bool, cond, ◌||◌, List, [], ◌∷◌, ◌==◌}
+use Rattle.std.specs.Prelude.{◌≡◌, ◌≢◌, ℕ, Bool, cond, ◌||◌, List, [], ◌∷◌, ◌==◌}
 
 -- whether a byte ends a line
 abbrev pub ends_line : ℕ → Bool
@@ -19,3 +19,9 @@ without_lf (b ∷ bs) = cond (b == 10) bs (b ∷ bs)
 abbrev pub behind_line : List ℕ → List ℕ
 behind_line [] = []
 behind_line (b ∷ bs) = cond (b == 13) (without_lf bs) (cond (b == 10) bs (behind_line bs))
+
+-- a text that is not empty, cut into its first line and what stands behind that
+pub record CutsFirst (text line rest : List ℕ) : Type 0 where
+  pub some : text ≢ []
+  pub first : line ≡ first_line text
+  pub behind : rest ≡ behind_line text

@@ -1,3 +1,7 @@
+use crate::words::UnknownWord;
+use std::fmt;
+use std::str::FromStr;
+
 /// An option that wants a word behind it.
 #[derive(Clone, Copy, PartialEq, Eq, Debug)]
 pub enum Flag {
@@ -7,23 +11,6 @@ pub enum Flag {
 }
 
 impl Flag {
-    pub fn named(word: &str) -> Option<Flag> {
-        match word {
-            "--setup" => Some(Flag::Setup),
-            "--drive" => Some(Flag::Drive),
-            "--reversed" => Some(Flag::Reversed),
-            _ => None,
-        }
-    }
-
-    pub fn name(self) -> &'static str {
-        match self {
-            Flag::Setup => "--setup",
-            Flag::Drive => "--drive",
-            Flag::Reversed => "--reversed",
-        }
-    }
-
     /// What is allowed behind it.
     pub fn wanted(self) -> &'static str {
         match self {
@@ -32,6 +19,33 @@ impl Flag {
                 "instant, stepping, stride=N (whole, 1 to 2000000000) or share=F (above 0, at most 1)"
             }
             Flag::Reversed => "the number of an axis, 1 to 12",
+        }
+    }
+}
+
+impl FromStr for Flag {
+    type Err = UnknownWord;
+
+    ghost use Rattle.marksheet.specs.Choosing.{Flags};
+
+    ghost from_str_gives = { Flags };
+
+    fn from_str(word: &str) -> Result<Flag, UnknownWord> {
+        match word {
+            "--setup" => Ok(Flag::Setup),
+            "--drive" => Ok(Flag::Drive),
+            "--reversed" => Ok(Flag::Reversed),
+            _ => Err(UnknownWord),
+        }
+    }
+}
+
+impl fmt::Display for Flag {
+    fn fmt<W: fmt::Write>(&self, f: &mut fmt::Formatter<W>) -> fmt::Result {
+        match self {
+            Flag::Setup => write!(f, "--setup"),
+            Flag::Drive => write!(f, "--drive"),
+            Flag::Reversed => write!(f, "--reversed"),
         }
     }
 }

@@ -24,7 +24,7 @@ fn read_stdin(rt: &HostRuntime) -> io::Result<Vec<u8>> {
 
 /// The setup records: those of the file named, or the course's.
 pub fn read_setup(rt: &HostRuntime, options: &Options) -> Result<Vec<u8>, Trouble> {
-    match &options.setup {
+    match &options.settings.setup {
         Some(name) => told("setup file", name, fs::read(rt, name.as_str())),
         None => Ok(course_setup(rt.alloc())?),
     }

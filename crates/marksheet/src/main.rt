@@ -2,7 +2,6 @@
 #![tactic(auto)]
 
 mod course;
-mod cut;
 mod drive_choice;
 mod flag;
 mod input;
@@ -15,9 +14,10 @@ mod text;
 mod totals;
 mod trouble;
 mod usage;
+mod words;
 
 use input::{read_answers, read_setup};
-use lines::cut_line;
+use lines::Lines;
 use options::{Options, Request};
 use rig::{Rig, rig_of};
 use session::Session;
@@ -31,20 +31,17 @@ use usage::USAGE;
 /// The drive that the options choose, with an axis for each record of the setup.
 fn mounted(options: &Options, setup: &Setup) -> Result<Rig, Trouble> {
     let count = setup.count();
-    for axis in options.reversed.as_slice() {
-        if *axis > count {
-            return Err(Trouble::NoSuchAxis { axis: *axis, count });
-        }
+    let reversed = options.settings.reversed.as_slice();
+    if let Some(&axis) = reversed.iter().find(|axis| **axis > count) {
+        return Err(Trouble::NoSuchAxis { axis, count });
     }
-    Ok(rig_of(options.drive, count, options.reversed.as_slice()))
+    Ok(rig_of(options.settings.drive, count, reversed))
 }
 
 /// Runs every line of the answers.
 fn answer_all(rt: &impl Print, session: &mut Session, answers: &[u8]) -> Result<(), Trouble> {
-    let mut rest = answers;
-    while let Some(cut) = cut_line(rest) {
-        session.answer(rt, cut.line)?;
-        rest = cut.rest;
+    for line in Lines::of(answers) {
+        session.answer(rt, line)?;
     }
     Ok(())
 }

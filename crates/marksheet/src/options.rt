@@ -1,20 +1,26 @@
-ghost use Rattle.std.specs.Prelude.{◌≡◌, ◌≤◌, IfSome, Some, codes};
-ghost use Rattle.marksheet.specs.Choosing.{Taken};
-ghost use Rattle.marksheet.specs.declared.drive_choice.DriveChoice.TheVariants.{Instant, Stepping};
+ghost use Rattle.std.specs.Prelude.{◌≡◌, MatchOption};
+ghost use Rattle.marksheet.specs.Choosing.{WritesUpTo, number_in};
 
 use crate::drive_choice::DriveChoice;
 use crate::flag::Flag;
 use crate::usage::{MOST_REVERSED, UsageError};
+use crate::words::number_up_to;
 use std::alloc::Global;
 use std::env::Args;
 
-/// What a mark sheet is made of.
+/// The console and the drive that the answers are run on.
 #[derive(Drop)]
-pub struct Options {
+pub struct Settings {
     /// The setup file; none means the course setup.
     pub setup: Option<String>,
     pub drive: DriveChoice,
     pub reversed: Vec<usize>,
+}
+
+/// What a mark sheet is made of.
+#[derive(Drop)]
+pub struct Options {
+    pub settings: Settings,
     /// The answer file, or `-`.
     pub answers: String,
 }
@@ -26,66 +32,28 @@ pub enum Request {
     Sheet(Options),
 }
 
-fn stride(text: &str) -> Option<DriveChoice>
-    ensures { IfSome result Taken }
-{
-    match text.parse::<u32>() {
-        Ok(n) if 1 <= n && n <= 2_000_000_000 => Some(DriveChoice::Stride(n)),
-        _ => None,
-    }
-}
-
-fn share(text: &str) -> Option<DriveChoice>
-    ensures { IfSome result Taken }
-{
-    match text.parse::<f64>() {
-        Ok(part) if part > 0.0 && part <= 1.0 => Some(DriveChoice::Share(part)),
-        _ => None,
-    }
-}
-
-/// The drive that a word names.
-fn drive_named(word: &str) -> Option<DriveChoice>
-    ensures instant { word.now ≡ codes "instant" → result ≡ Some Instant }
-    ensures stepping { word.now ≡ codes "stepping" → result ≡ Some Stepping }
-    ensures taken { IfSome result Taken }
-{
-    match word {
-        "instant" => Some(DriveChoice::Instant),
-        "stepping" => Some(DriveChoice::Stepping),
-        _ => match word.split_once('=') {
-            Some(("stride", text)) => stride(text),
-            Some(("share", text)) => share(text),
-            _ => None,
-        },
-    }
-}
-
 /// The axis that a word names, 1 to 12.
 fn axis_named(word: &str) -> Option<usize>
-    ensures { IfSome result (λ n. (1 ≤ n) × (n ≤ 12)) }
+    ensures { MatchOption result (¬ WritesUpTo 12 word.now) (λ n. WritesUpTo 12 word.now × (n ≡ number_in word.now)) }
 {
-    match word.parse::<usize>() {
-        Ok(n) if 1 <= n && n <= 12 => Some(n),
-        _ => None,
-    }
+    number_up_to(12, word).map(|n| n as usize)
 }
 
 /// What the words so far have said.
 #[derive(Drop)]
 struct Draft {
-    setup: Option<String>,
-    drive: DriveChoice,
-    reversed: Vec<usize>,
+    settings: Settings,
     answers: Option<String>,
 }
 
 impl Draft {
     fn new(heap: Global) -> Draft {
         Draft {
-            setup: None,
-            drive: DriveChoice::Stepping,
-            reversed: Vec::new(heap),
+            settings: Settings {
+                setup: None,
+                drive: DriveChoice::Stepping,
+                reversed: Vec::new(heap),
+            },
             answers: None,
         }
     }
@@ -94,23 +62,24 @@ impl Draft {
         let Some(axis) = axis_named(word.as_str()) else {
             return Err(UsageError::BadAxis(word));
         };
-        if self.reversed.as_slice().contains(&axis) {
+        let reversed = &mut self.settings.reversed;
+        if reversed.contains(&axis) {
             return Err(UsageError::ReversedAgain(axis));
         }
-        if self.reversed.len() >= MOST_REVERSED {
+        if reversed.len() >= MOST_REVERSED {
             return Err(UsageError::TooManyReversed);
         }
-        self.reversed.push(axis)?;
+        reversed.push(axis)?;
         Ok(())
     }
 
     /// Takes the word behind an option.
     fn take_value(&mut self, flag: Flag, word: String) -> Result<(), UsageError> {
         match flag {
-            Flag::Setup => self.setup = Some(word),
-            Flag::Drive => match drive_named(word.as_str()) {
-                Some(choice) => self.drive = choice,
-                None => return Err(UsageError::BadDrive(word)),
+            Flag::Setup => self.settings.setup = Some(word),
+            Flag::Drive => match word.as_str().parse() {
+                Ok(choice) => self.settings.drive = choice,
+                Err(_) => return Err(UsageError::BadDrive(word)),
             },
             Flag::Reversed => self.reverse(word)?,
         }
@@ -130,21 +99,9 @@ impl Draft {
     }
 
     fn finish(self) -> Result<Options, UsageError> {
-        let Draft {
-            setup,
-            drive,
-            reversed,
-            answers,
-        } = self;
-        match answers {
-            Some(answers) => Ok(Options {
-                setup,
-                drive,
-                reversed,
-                answers,
-            }),
-            None => Err(UsageError::NoAnswers),
-        }
+        let Draft { settings, answers } = self;
+        let answers = answers.ok_or(UsageError::NoAnswers)?;
+        Ok(Options { settings, answers })
     }
 }
 
@@ -152,25 +109,19 @@ impl Request {
     /// What the words behind the program's name ask for.
     pub fn parse(heap: Global, words: Args) -> Result<Request, UsageError> {
         let mut draft = Draft::new(heap);
-        let mut awaited: Option<Flag> = None;
-        for word in words.skip(1) {
-            match awaited {
-                Some(flag) => {
-                    draft.take_value(flag, word)?;
-                    awaited = None;
+        let mut words = words.skip(1);
+        while let Some(word) = words.next() {
+            if word.as_str() == "--help" {
+                return Ok(Request::Help);
+            }
+            match word.as_str().parse() {
+                Ok(flag) => {
+                    let value = words.next().ok_or(UsageError::ValueMissing(flag))?;
+                    draft.take_value(flag, value)?;
                 }
-                None if word.as_str() == "--help" => return Ok(Request::Help),
-                None => {
-                    awaited = Flag::named(word.as_str());
-                    if awaited.is_none() {
-                        draft.take_answers(word)?;
-                    }
-                }
+                Err(_) => draft.take_answers(word)?,
             }
         }
-        match awaited {
-            Some(flag) => Err(UsageError::ValueMissing(flag)),
-            None => Ok(Request::Sheet(draft.finish()?)),
-        }
+        Ok(Request::Sheet(draft.finish()?))
     }
 }

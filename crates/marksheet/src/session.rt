@@ -28,7 +28,7 @@ impl Session {
         Ok(Session {
             console,
             rig,
-            totals: Totals::new(),
+            totals: Totals::default(),
             sent: Vec::new(heap),
             reply: vec![in heap; 0; REPLY]?,
         })

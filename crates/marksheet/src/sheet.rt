@@ -1,27 +1,20 @@
-use crate::drive_choice::DriveChoice;
-use crate::options::Options;
+use crate::options::{Options, Settings};
 use crate::rig::Rig;
 use crate::text::{Shown, Units};
 use crate::totals::Totals;
-use crate::trouble::refusal_words;
 use console::Console;
 use drive::Drive;
-use queue::{Entry, ErrorEntry, Refusal};
+use queue::{ErrorEntry, Refusal};
 use setup::{Setup, SetupRecord, text_length};
 use std::io;
 
-fn show_drive(rt: &impl Print, options: &Options) -> io::Result<()> {
-    match options.drive {
-        DriveChoice::Instant => print!(rt; "DRIVE    instant")?,
-        DriveChoice::Stepping => print!(rt; "DRIVE    stepping")?,
-        DriveChoice::Stride(n) => print!(rt; "DRIVE    easing by a stride of {n}")?,
-        DriveChoice::Share(part) => print!(rt; "DRIVE    easing by a share of {part}")?,
-    }
-    if options.reversed.is_empty() {
+fn show_drive(rt: &impl Print, settings: &Settings) -> io::Result<()> {
+    print!(rt; "DRIVE    {}", settings.drive)?;
+    if settings.reversed.is_empty() {
         return println!(rt; "; no axis reversed");
     }
     print!(rt; "; reversed:")?;
-    for axis in options.reversed.as_slice() {
+    for axis in settings.reversed.as_slice() {
         print!(rt; " axis {axis}")?;
     }
     println!(rt; "")
@@ -40,11 +33,11 @@ fn show_record(rt: &impl Print, axis: usize, record: &SetupRecord) -> io::Result
 pub fn show_setup(rt: &impl Print, options: &Options, setup: &Setup) -> io::Result<()> {
     println!(rt; "MARK SHEET")?;
     println!(rt; "")?;
-    match &options.setup {
+    match &options.settings.setup {
         Some(name) => println!(rt; "SETUP    {name}")?,
         None => println!(rt; "SETUP    the course's")?,
     }
-    show_drive(rt, options)?;
+    show_drive(rt, &options.settings)?;
     println!(rt; "AXIS  MAX VELOCITY  MAX ACCELERATION    LEFT LIMIT   RIGHT LIMIT  STAGE")?;
     for axis in 1..=setup.count() {
         if let Some(record) = setup.record(axis) {
@@ -78,28 +71,19 @@ pub fn show_replies(rt: &impl Print, replies: &[u8]) -> io::Result<()> {
 
 /// That the console refused a line by number.
 pub fn show_refused(rt: &impl Print, refusal: Refusal) -> io::Result<()> {
-    println!(rt;
-        "        refused, {}: {}",
-        refusal.number(),
-        refusal_words(refusal)
-    )
+    println!(rt; "        refused, {}: {refusal}", refusal.number())
 }
 
-/// The errors that wait, oldest first; answers how many there are.
-fn show_errors(rt: &impl Print, console: &Console) -> io::Result<u32> {
+/// The errors that wait, oldest first.
+fn show_errors(rt: &impl Print, console: &Console) -> io::Result<()> {
     println!(rt; "ERRORS WAITING")?;
     println!(rt; "CODE  COLUMN  MESSAGE")?;
-    let mut waiting: u32 = 0;
-    for n in 1..=ErrorEntry::MOST {
-        if let Ok(entry) = console.error(n) {
-            waiting = waiting.saturating_add(1);
-            let code = entry.fault.code();
-            let column = entry.column;
-            println!(rt; "{code:>4}  {column:>6}  {}", Shown(entry.fault.message()))?;
-        }
+    for entry in (1..=ErrorEntry::MOST).map_while(|n| console.error(n).ok()) {
+        let code = entry.fault.code();
+        let column = entry.column;
+        println!(rt; "{code:>4}  {column:>6}  {}", Shown(entry.fault.message()))?;
     }
-    println!(rt; "")?;
-    Ok(waiting)
+    println!(rt; "")
 }
 
 /// Where each axis stands, where it goes, and its power.
@@ -124,13 +108,16 @@ fn show_axes(rt: &impl Print, rig: &Rig) -> io::Result<()> {
 /// How it all stands at the end, and the totals.
 pub fn show_end(rt: &impl Print, console: &Console, rig: &Rig, totals: Totals) -> io::Result<()> {
     println!(rt; "")?;
-    let waiting = show_errors(rt, console)?;
+    show_errors(rt, console)?;
     show_axes(rt, rig)?;
     let Totals {
         lines,
         replies,
         reply_bytes,
     } = totals;
+    let waiting = (1..=ErrorEntry::MOST)
+        .take_while(|n| console.error(*n).is_ok())
+        .count();
     println!(rt;
         "TOTALS   lines {lines}, replies {replies}, reply bytes {reply_bytes}, errors waiting {waiting}"
     )

@@ -1,4 +1,4 @@
-use number::texts::write_setting;
+use number::writer::Writer;
 use std::fmt;
 use std::str::from_utf8;
 
@@ -9,7 +9,9 @@ pub struct Units(pub i64);
 impl fmt::Display for Units {
     fn fmt<W: fmt::Write>(&self, f: &mut fmt::Formatter<W>) -> fmt::Result {
         let mut text = [0; 24];
-        let end = write_setting(&mut text, 0, self.0).min(24);
+        let mut writer = Writer::at(&mut text, 0);
+        writer.setting(self.0);
+        let end = writer.offset().min(24);
         match from_utf8(&text[0..end]) {
             Ok(shown) => f.pad(shown),
             Err(_) => Err(fmt::Error),
@@ -24,7 +26,7 @@ pub struct Shown<'a>(pub &'a [u8]);
 impl fmt::Display for Shown<'_> {
     fn fmt<W: fmt::Write>(&self, f: &mut fmt::Formatter<W>) -> fmt::Result {
         for b in self.0 {
-            if 32 <= *b && *b <= 126 {
+            if matches!(b, b' '..=b'~') {
                 f.write_char(char::from(*b))?;
             } else {
                 write!(f, "<{b:02X}>")?;

@@ -1,6 +1,6 @@
 use crate::flag::Flag;
-use std::alloc::{AllocError, AllocFailed};
-use std::fmt;
+use std::alloc::AllocError;
+use thiserror::Error;
 
 /// How many axes can be reversed.
 pub const MOST_REVERSED: usize = 3;
@@ -18,64 +18,25 @@ ANSWERS          the answer file, a line of commands a line; - is standard input
 --help           prints this";
 
 /// What is wrong with the words that the program was called with.
-#[derive(Drop)]
+#[derive(Debug, Drop, Error)]
 pub enum UsageError {
+    #[error("unknown option {0}: the options are --setup FILE, --drive DRIVE, --reversed AXIS and --help")]
     UnknownOption(String),
     /// Nothing stands behind an option that wants a word.
+    #[error("{0} wants {wanted} behind it", wanted = .0.wanted())]
     ValueMissing(Flag),
+    #[error("--drive {0}: it wants {wanted}", wanted = Flag::Drive.wanted())]
     BadDrive(String),
+    #[error("--reversed {0}: it wants {wanted}", wanted = Flag::Reversed.wanted())]
     BadAxis(String),
+    #[error("--reversed {0}: axis {0} is named twice")]
     ReversedAgain(usize),
+    #[error("--reversed: at most {MOST_REVERSED} axes can be reversed")]
     TooManyReversed,
+    #[error("no answer file: name one, or - for standard input")]
     NoAnswers,
+    #[error("{0} is a second answer file: name one alone")]
     SecondAnswers(String),
-    Memory,
-}
-
-impl From<AllocError> for UsageError {
-    fn from(_error: AllocError) -> UsageError {
-        UsageError::Memory
-    }
-}
-
-impl<T: Drop> From<AllocFailed<T>> for UsageError {
-    fn from(_error: AllocFailed<T>) -> UsageError {
-        UsageError::Memory
-    }
-}
-
-impl fmt::Display for UsageError {
-    fn fmt<W: fmt::Write>(&self, f: &mut fmt::Formatter<W>) -> fmt::Result {
-        match self {
-            UsageError::UnknownOption(word) => write!(
-                f,
-                "unknown option {word}: the options are --setup FILE, --drive DRIVE, --reversed AXIS and --help"
-            ),
-            UsageError::ValueMissing(flag) => {
-                write!(f, "{} wants {} behind it", flag.name(), flag.wanted())
-            }
-            UsageError::BadDrive(word) => {
-                write!(f, "--drive {word}: it wants {}", Flag::Drive.wanted())
-            }
-            UsageError::BadAxis(word) => {
-                write!(f, "--reversed {word}: it wants {}", Flag::Reversed.wanted())
-            }
-            UsageError::ReversedAgain(axis) => {
-                write!(f, "--reversed {axis}: axis {axis} is named twice")
-            }
-            UsageError::TooManyReversed => {
-                write!(
-                    f,
-                    "--reversed: at most {MOST_REVERSED} axes can be reversed"
-                )
-            }
-            UsageError::NoAnswers => {
-                write!(f, "no answer file: name one, or - for standard input")
-            }
-            UsageError::SecondAnswers(word) => {
-                write!(f, "{word} is a second answer file: name one alone")
-            }
-            UsageError::Memory => write!(f, "out of memory"),
-        }
-    }
+    #[error("out of memory")]
+    Memory(#[from(alloc)] AllocError),
 }

@@ -1,4 +1,4 @@
-ghost use Rattle.std.specs.Prelude.{◌≡◌, Some, None, MatchResult};
+ghost use Rattle.std.specs.Prelude.{◌≡◌, MatchResult};
 ghost use Rattle.queue.specs.Refusals.{number_of};
 
 use crate::fault::Fault;
@@ -21,14 +21,11 @@ pub struct Case {
     console: Console,
 }
 
-/// The number of a call's refusal, and 0 where there is none.
+/// The number of a call's refusal, and 0 where there is none, as a script's answer prints it.
 fn number_of<T: Drop>(answer: Result<T, Refusal>) -> u16
     ensures { MatchResult answer (λ _. result ≡ 0) (λ e. result ≡ number_of e) }
 {
-    match answer {
-        Ok(_) => 0,
-        Err(refusal) => refusal.number(),
-    }
+    answer.err().map_or(0, Refusal::number)
 }
 
 impl Case {
@@ -42,44 +39,26 @@ impl Case {
         }
     }
 
-    /// Takes the rig out, for a call that changes it.
-    fn take_rig(&mut self) -> Result<Rig, Fault>
-        ensures { MatchResult result (λ taken. self.old.rig ≡ Some taken) (λ _. self.old.rig ≡ None) }
-    {
-        match self.rig.take() {
-            Some(rig) => Ok(rig),
-            None => Err(Fault::NoDrive),
-        }
-    }
-
     fn reverse(&mut self, axis: usize) -> Result<(), Fault> {
-        let rig = self.take_rig()?;
-        let Some(rig) = reversed(rig, axis) else {
-            return Err(Fault::ReversedTwice);
-        };
-        self.rig = Some(rig);
+        let rig = self.rig.take().ok_or(Fault::NoDrive)?;
+        self.rig = Some(reversed(rig, axis).ok_or(Fault::ReversedTwice)?);
         Ok(())
     }
 
     fn open(&mut self) -> Result<u16, Fault> {
-        let mut rig = self.take_rig()?;
-        let number = number_of(self.console.open(&mut rig, self.records.as_slice()));
-        self.rig = Some(rig);
-        Ok(number)
+        let rig = self.rig.as_mut().ok_or(Fault::NoDrive)?;
+        Ok(number_of(self.console.open(rig, self.records.as_slice())))
     }
 
     fn ticks(&mut self, count: u32) -> Result<u16, Fault> {
-        let mut rig = self.take_rig()?;
-        let number = number_of(self.console.ticks(&mut rig, count));
-        self.rig = Some(rig);
-        Ok(number)
+        let rig = self.rig.as_mut().ok_or(Fault::NoDrive)?;
+        Ok(number_of(self.console.ticks(rig, count)))
     }
 
     fn line(&mut self, rt: &impl Print, room: usize, bytes: &[u8]) -> Result<(), Fault> {
-        let mut rig = self.take_rig()?;
+        let rig = self.rig.as_mut().ok_or(Fault::NoDrive)?;
         let mut reply = vec![in self.heap; FILLED; room]?;
-        let answer = self.console.line(&mut rig, bytes, reply.as_mut_slice());
-        self.rig = Some(rig);
+        let answer = self.console.line(rig, bytes, reply.as_mut_slice());
         show_line(rt, answer, reply.as_slice(), FILLED)?;
         show_errors(rt, &self.console)?;
         Ok(())

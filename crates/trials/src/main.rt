@@ -3,8 +3,6 @@
 
 mod case;
 mod fault;
-mod hex;
-mod hex_fault;
 mod rig;
 mod script;
 mod show;

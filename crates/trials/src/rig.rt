@@ -6,7 +6,9 @@ ghost use Rattle.trials.specs.Rigs.{rig_axes};
 use bank::Bank;
 use drive::Reversed;
 
-/// A drive that is mounted reversed at two axes at most. Axis 0 stands for none.
+/// A drive that is mounted reversed at two axes at most.
+// Axis 0, which no drive has, stands for none: an enum of mountings would be a drive of its own, with each call and law
+// passed on, and no shorter.
 pub type Rig = Reversed<Reversed<Bank>>;
 
 /// The drive, reversed nowhere.

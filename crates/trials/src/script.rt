@@ -1,9 +1,8 @@
-ghost use Rattle.std.specs.Prelude.{◌≡◌, map, length, IfOk, Ok};
-ghost use Rattle.trials.specs.Hex.{Spells};
+ghost use Rattle.std.specs.Prelude.{◌≡◌, map, length, IfOk, MatchResult, Ok};
+ghost use Rattle.trials.specs.Hex.{Spells, Wrong};
 ghost use Rattle.trials.specs.Script.{Says};
 
 use crate::fault::Fault;
-use crate::hex::hex_bytes;
 use bank::Bank;
 use stage::Ease;
 use std::alloc::Global;
@@ -30,10 +29,7 @@ where
     N::Err: Drop,
     ensures { IfOk result (λ n. N.FromStr.from_str_gives word.now (Ok n)) }
 {
-    match word.parse::<N>() {
-        Ok(n) => Ok(n),
-        Err(_) => Err(Fault::Number),
-    }
+    word.parse().map_err(|_| Fault::Number)
 }
 
 /// The drive that the words behind `drive` name.
@@ -53,6 +49,14 @@ fn drive(words: &[&str]) -> Result<Bank, Fault> {
         )),
         _ => Err(Fault::Words),
     }
+}
+
+/// The bytes that a text of hex digits spells, two digits to a byte.
+#[tactic(auto, using(crate::proofs::Digits::decoded, crate::proofs::Digits::refused))]
+fn hex_bytes(heap: Global, text: &[u8]) -> Result<Vec<u8>, Fault>
+    ensures { MatchResult result (λ v. Spells text.now v.items) (λ e. Wrong text.now e) }
+{
+    Ok(hex::decode(heap, text)?)
 }
 
 /// The bytes of one setup record.
@@ -88,6 +92,7 @@ impl Directive {
     }
 
     /// What a line of a script asks for. Its words are parted by one blank.
+    // No `FromStr`: its words and bytes need the heap.
     pub fn parse(heap: Global, line: &str) -> Result<Directive, Fault> {
         let words: Vec<&str> = line.split(' ').collect(heap)?;
         Directive::of_words(heap, words.as_slice())

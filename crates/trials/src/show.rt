@@ -1,7 +1,7 @@
 ghost use Rattle.std.specs.Prelude.{◌≡◌, ℕ, ◌<◌, true, false, length, ◌≢◌, slice_index};
 
 use console::{Console, LineDone};
-use queue::{Entry, ErrorEntry, Refusal};
+use queue::{ErrorEntry, Refusal};
 use std::io;
 use std::str::from_utf8;
 
@@ -23,12 +23,7 @@ fn is_spoiled(bytes: &[u8], filled: u8) -> bool
     ensures spoiled { result ≡ true → (k : ℕ) × (k < length bytes.now) × (slice_index bytes.now k ≢ filled) }
     ensures whole { result ≡ false → (k : ℕ) → k < length bytes.now → slice_index bytes.now k ≡ filled }
 {
-    for b in bytes {
-        if *b != filled {
-            return true;
-        }
-    }
-    false
+    bytes.iter().any(|b| *b != filled)
 }
 
 /// What a line call answered, its replies, and whether the buffer behind them was spoiled.
@@ -59,10 +54,8 @@ pub fn show_line(
 /// The code and the column of each error that waits, oldest first.
 pub fn show_errors(rt: &impl Print, console: &Console) -> io::Result<()> {
     print!(rt; "errors")?;
-    for n in 1..=ErrorEntry::MOST {
-        if let Ok(entry) = console.error(n) {
-            print!(rt; " {}@{}", entry.fault.code(), entry.column)?;
-        }
+    for entry in (1..=ErrorEntry::MOST).map_while(|n| console.error(n).ok()) {
+        print!(rt; " {}@{}", entry.fault.code(), entry.column)?;
     }
     println!(rt; "")
 }
