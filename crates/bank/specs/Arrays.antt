@@ -1,8 +1,10 @@
 -- What is asked and done, in a bank's array and in the list of axes that the bank means.
 use Rattle.std.specs.Prelude.{◌≡◌, ℕ, zero, suc, ◌+◌, ◌<◌, ◌≤◌, ◌⊎◌, List, [], ◌∷◌, ◌++◌, map, length, get_or, take, drop, set, replicate, Ok, Err, Result, slice_index_or, slice_set, refl}
 use Rattle.std.proofs.Common.{sym, ◌∙◌, ap, inl, inr, arith, add-one}
+use Rattle.std.specs.Borrow.{MutBor}
+use Rattle.std.specs.Fn.{Once, FnOnceReturnsAtMut}
 use Rattle.std.specs.List.{AllByRecursion}
-use Rattle.std.proofs.lemmas.List.{length-map, length-take-le, get_or-map, map-set}
+use Rattle.std.proofs.lemmas.List.{length-map, length-take-le, get_or-take, get_or-map, map-set, take_all, drop_all, append-nil}
 use Rattle.std.proofs.lemmas.Result.{err_from_is_err_and}
 use Rattle.std.specs.Result.{IsErrAnd}
 use Rattle.std.proofs.lemmas.List.Edits.{map_over_more}
@@ -95,16 +97,45 @@ changed_err m f n xs k r e h out is =
     let p = err_from_is_err_and r is in
     rw (p.1, p.2, out.0) (done_none m f n xs k h out.1)
 
+-- a call at a `&mut` to the axis in place i, which leaves in that place what it leaves there
+pub changed_ok : {X F : Type 0} (m : X → Axis) (f : Change) (n : ℕ) (xs : List X) (k i j : ℕ) (x : X) (ys : List X) (g : Once F (MutBor X × Unit {0}) (Result Unit DriveRefusal × (MutBor X × Unit {0}))) (call : F) (p q : MutBor X) (r : Result Unit DriveRefusal) →
+    ((y z : X) (e : Result Unit DriveRefusal) → FnOnceReturnsAtMut g call y e z → (e, m z) ≡ f (m y)) → g.post call (p, tt) (r, (q, tt)) → p.now ≡ slice_index_or xs i x →
+    n ≤ length xs → (i < n) × (k ≡ i + 1) → ys ≡ slice_set xs i q.now → j ≡ n → (r, map m (take j ys)) ≡ at_axis f k (map m (take n xs))
+changed_ok m f n xs k i j x ys g call p q r met post at_x h at_i put kept =
+    done_some m f n xs k i j x q.now ys r h at_i (met (slice_index_or xs i x) q.now r (record { shown = p; shows = at_x; left = q; met = post; leaves = refl })) put kept
+
 -- ---- a tick
 
--- one axis more has ticked
-pub tick_more : {X : Type 0} (m : X → Axis) (f : Axis → Axis) (i : ℕ) (old xs : List X) (x y : X) → i < length xs → length xs ≡ length old →
+-- one more of a slice has ticked
+pub tick_next : {X : Type 0} (m : X → Axis) (f : Axis → Axis) (i : ℕ) (old xs : List X) (x y : X) → i < length xs → length xs ≡ length old →
     map m xs ≡ map f (take i (map m old)) ++ drop i (map m old) → m y ≡ f (m (slice_index_or xs i x)) →
     map m (slice_set xs i y) ≡ map f (take (i + 1) (map m old)) ++ drop (i + 1) (map m old)
-tick_more m f i old xs x y l same inv e =
+tick_next m f i old xs x y l same inv e =
     let is : m (get_or xs i x) ≡ get_or (map m xs) i (m (get_or xs i x)) = sym (get_or-map m xs i x (m (get_or xs i x)) l) in
     let lt : i < length (map m old) = rw length-map (omega arith) in
     map-set m xs i y ∙ ap (set (map m xs) i) e ∙ map_over_more f (map m old) (map m xs) i (m (get_or xs i x)) lt inv is
+
+put_map : {X Y : Type 0} (m : X → Y) (n i : ℕ) (xs : List X) (y : X) → i < n → map m (take n (slice_set xs i y)) ≡ slice_set (map m (take n xs)) i (m y)
+put_map m zero i xs y l = absurd (omega arith)
+put_map m (suc n) i [] y l = refl
+put_map m (suc n) zero (x ∷ xs) y l = refl
+put_map m (suc n) (suc i) (x ∷ xs) y l = ap (λ zs. m x ∷ zs) (put_map m n i xs y (omega arith))
+
+-- one more of the first n axes has ticked
+pub tick_more : {X : Type 0} (m : X → Axis) (f : Axis → Axis) (n i : ℕ) (old xs : List X) (x y : X) → i < n → n ≤ length xs → n ≤ length old →
+    map m (take n xs) ≡ map f (take i (map m (take n old))) ++ drop i (map m (take n old)) → m y ≡ f (m (slice_index_or xs i x)) →
+    map m (take n (slice_set xs i y)) ≡ map f (take (i + 1) (map m (take n old))) ++ drop (i + 1) (map m (take n old))
+tick_more m f n i old xs x y l h h' inv e =
+    let z = get_or xs i x in
+    let is : m z ≡ get_or (map m (take n xs)) i (m z) = sym (get_or-map m (take n xs) i x (m z) (rw length-take-le l) ∙ ap m (get_or-take n xs i x l)) in
+    let lt : i < length (map m (take n old)) = rw (length-map, length-take-le) l in
+    put_map m n i xs y l ∙ ap (set (map m (take n xs)) i) e ∙ map_over_more f (map m (take n old)) (map m (take n xs)) i (m z) lt inv is
+
+-- all have ticked
+pub tick_all : {X : Type 0} (m : X → Axis) (f : Axis → Axis) (n i : ℕ) (old : List X) → n ≤ i → n ≤ length old → map f (take i (map m (take n old))) ++ drop i (map m (take n old)) ≡ map f (map m (take n old))
+tick_all m f n i old h l =
+    let k : length (map m (take n old)) ≤ i = rw (length-map, length-take-le) h in
+    rw (take_all i (map m (take n old)) k, drop_all i (map m (take n old)) k, append-nil)
 
 -- ---- a bank of equal axes
 

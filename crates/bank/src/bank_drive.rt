@@ -36,6 +36,7 @@ impl Bank {
     }
 
     // What a call of an axis answers, by its number; the other axes are kept.
+    #[tactic(auto, using(crate::specs::Arrays::changed_ok))]
     fn change<F: FnOnce(&mut AxisKind) -> Result<(), DriveRefusal>>(
         &mut self,
         axis: usize,
@@ -51,7 +52,7 @@ impl Bank {
 }
 
 // Each of the axes ticks.
-#[tactic(auto, using(crate::specs::Arrays::tick_more))]
+#[tactic(auto, using(crate::specs::Arrays::tick_next))]
 fn tick_each(axes: &mut [AxisKind])
     ensures { map kind_axis axes.new ≡ tick_axes (map kind_axis axes.old) }
 {

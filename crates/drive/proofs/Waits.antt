@@ -1,5 +1,5 @@
 -- Ticks until an axis rests: every drive arrives.
-use Rattle.std.proofs.Common.{◌≡◌, ℕ, zero, suc, ◌+◌, ◌<◌, ◌≤◌, Bool, true, false, List, [], ◌∷◌, ◌-ℤ◌, nat_abs, Ok, Err, Result, sym, refl, ap, ◌∙◌, arith}
+use Rattle.std.proofs.Common.{◌≡◌, ℕ, zero, suc, ◌+◌, ◌-◌, ◌<◌, ◌≤◌, Bool, true, false, List, [], ◌∷◌, ◌-ℤ◌, nat_abs, Ok, Err, Result, sym, refl, ap, ◌∙◌, add-one, arith}
 use Rattle.std.specs.List.{AllByRecursion}
 use Rattle.drive.specs.declared.refusal.DriveRefusal.{DriveRefusal}
 use Rattle.drive.specs.Model.{Axis, SoundAxis, Sound, ask, ask_axis, at_rest, tick_axes}
@@ -51,3 +51,18 @@ pub arrives : (n limit : ℕ) (xs ys : List Axis) (r : Result ℕ DriveRefusal) 
 arrives n limit xs ys r s e left m w is =
     let h = arriving limit 0 (rests n xs) n xs s refl left m w (sym (ap (λ q. q.0) e) ∙ is) in
     (omega (arith, h.0), λ k. ap (λ q. rests n q.1) e ∙ h.1 k)
+
+-- ---- a turn of the loop
+
+pub ticked_once : (made limit n : ℕ) (xs ys : List Axis) (r : Result Bool DriveRefusal) → made < limit → ys ≡ tick_axes xs → r ≡ rests n ys → settling (made + 1) (limit - (made + 1)) r n ys ≡ settling made (limit - made) (Ok false) n xs
+ticked_once made limit n xs ys r lt is e =
+    let k : limit - made ≡ suc (limit - (made + 1)) = omega arith in
+    rw (k, add-one, is) (ap (λ b. settling (suc made) (limit - suc made) b n (tick_axes xs)) (e ∙ ap (rests n) is))
+
+pub stopped_at : (made limit n : ℕ) (xs : List Axis) (b : Bool) → limit ≤ made → settling made (limit - made) (Ok b) n xs ≡ (Ok made, xs)
+stopped_at made limit n xs true h = refl
+stopped_at made limit n xs false h = let k : limit - made ≡ 0 = omega arith in rw k
+
+-- the loop stands where the answer is known to be b, and goes on to the same end
+pub at_flag : (made limit n : ℕ) (xs start : List Axis) (a b : Bool) → a ≡ b → settling made (limit - made) (Ok a) n xs ≡ settled n limit start → settling made (limit - made) (Ok b) n xs ≡ settled n limit start
+at_flag made limit n xs start a b e inv = ap (λ f. settling made (limit - made) (Ok f) n xs) (sym e) ∙ inv

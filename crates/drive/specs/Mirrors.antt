@@ -86,7 +86,7 @@ module _ {R : Type 0} (f : Axis → R) (kept : (a : Axis) → f (mirror a) ≡ f
   ask_kept (suc i) zero (a ∷ xs) = refl
   ask_kept (suc i) (suc j) (a ∷ xs) = ask_kept i j xs
 
-  told_kept : (n k : ℕ) (xs : List Axis) → ask_axis f n (mirrored k xs) ≡ ask_axis f n xs
+  pub told_kept : (n k : ℕ) (xs : List Axis) → ask_axis f n (mirrored k xs) ≡ ask_axis f n xs
   told_kept zero zero xs = refl
   told_kept zero (suc j) xs = refl
   told_kept (suc i) zero xs = refl
@@ -142,7 +142,7 @@ module _ (f : Axis → ℤ) (turned : (a : Axis) → f (mirror a) ≡ neg_ℤ (f
   told_other (suc i) (suc j) xs ne = ask_other i j xs (λ e. ne (ap suc e))
 
   -- what is told of an axis of the mirrored list is what the list tells, faced
-  told_faced : (n k : ℕ) (xs : List Axis) → ((a : Axis) → SoundAxis a → unsigned_abs (f a) ≤ 2000000000) → Sound xs → facing_answer k n (ask_axis f n xs) ≡ ask_axis f n (mirrored k xs)
+  pub told_faced : (n k : ℕ) (xs : List Axis) → ((a : Axis) → SoundAxis a → unsigned_abs (f a) ≤ 2000000000) → Sound xs → facing_answer k n (ask_axis f n xs) ≡ ask_axis f n (mirrored k xs)
   told_faced n k xs within s =
       ⊎_elim
       (λ same-axis. rw same-axis (faced_same k (ask_axis f k xs) (λ p e. told_small f within k xs p s e) ∙ sym (told_same k xs)))
@@ -173,7 +173,7 @@ module _ (f : Change) (commutes : (a : Axis) → f (mirror a) ≡ turned_axis (f
   at_through (suc i) zero (a ∷ xs) = refl
   at_through (suc i) (suc j) (a ∷ xs) = ap (λ r. (r.0, a ∷ r.1)) (at_through i j xs)
 
-  change_through : (n k : ℕ) (xs : List Axis) → at_axis f n (mirrored k xs) ≡ turned_all k (at_axis f n xs)
+  pub change_through : (n k : ℕ) (xs : List Axis) → at_axis f n (mirrored k xs) ≡ turned_all k (at_axis f n xs)
   change_through zero zero xs = refl
   change_through zero (suc j) xs = refl
   change_through (suc i) zero xs = refl
@@ -233,14 +233,20 @@ module _ (f : ℤ → Change) (commutes : (t u : ℤ) (a : Axis) → Opposite t 
       rw e (change_other t n k xs ne))
       (cases_eq n k)
 
-start_faced : (q : Profile) (t u : ℤ) (a : Axis) → Opposite t u → SoundAxis a → start_axis t q (mirror a) ≡ turned_axis (start_axis u q a)
+  -- what the drive below was told, seen from above
+  pub call_faced : (t u : ℤ) (n k j : ℕ) (r : Result Unit DriveRefusal) (xs ys : List Axis) → mag t < 2 ^ 31 → Sound xs → u ≡ t → j ≡ k → (r, ys) ≡ at_axis (f (facing k n u)) n xs →
+      (r, mirrored j ys) ≡ at_axis (f t) n (mirrored k xs)
+  call_faced t u n k j r xs ys fits s is kept told =
+      rw kept (ap (λ q. (q.0, mirrored k q.1)) (told ∙ ap (λ z. at_axis (f (facing k n z)) n xs) is) ∙ sym (change_faced t n k xs fits s))
+
+pub start_faced : (q : Profile) (t u : ℤ) (a : Axis) → Opposite t u → SoundAxis a → start_axis t q (mirror a) ≡ turned_axis (start_axis u q a)
 start_faced q t u a (inl e) s =
     let n : unsigned_abs u ≡ unsigned_abs t = ap unsigned_abs e ∙ nat_abs_neg t in
     let m : neg_ℤ u ≡ t = ap neg_ℤ e ∙ neg_ℤ-neg_ℤ t in
     grind (arith, nat_tests)
 start_faced q t u a (inr h) s = grind (arith, nat_tests)
 
-set_position_faced : (t u : ℤ) (a : Axis) → Opposite t u → SoundAxis a → set_position_axis t (mirror a) ≡ turned_axis (set_position_axis u a)
+pub set_position_faced : (t u : ℤ) (a : Axis) → Opposite t u → SoundAxis a → set_position_axis t (mirror a) ≡ turned_axis (set_position_axis u a)
 set_position_faced t u a (inl e) s =
     let n : unsigned_abs u ≡ unsigned_abs t = ap unsigned_abs e ∙ nat_abs_neg t in
     let m : neg_ℤ u ≡ t = ap neg_ℤ e ∙ neg_ℤ-neg_ℤ t in

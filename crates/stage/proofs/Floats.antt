@@ -11,7 +11,7 @@ unfolding in_float
 in_float_lem (pos n) h = le→leb n (2 ^ 53) (omega arith)
 in_float_lem (negsuc n) h = lt→ltb n (2 ^ 53) (omega arith)
 
-there_and_back : (z : ℤ) → mag z < 2 ^ 31 → T (in_signed binary64 31 (of_int binary64 z)) × (to_signed 31 (of_int binary64 z) ≡ z)
+pub there_and_back : (z : ℤ) → mag z < 2 ^ 31 → T (in_signed binary64 31 (of_int binary64 z)) × (to_signed 31 (of_int binary64 z) ≡ z)
 there_and_back (pos n) h = positive_back binary64 31 n (in_float_lem (pos n) h) (omega arith)
 there_and_back (negsuc n) h = negative_back binary64 31 n (in_float_lem (negsuc n) h) (omega arith)
 

@@ -1,5 +1,6 @@
 ghost use Rattle.std.specs.Prelude.{◌≡◌};
-ghost use Rattle.stage.specs.Easing.{asked, easing_travel, share_taken, stride_taken};
+ghost use Rattle.drive.specs.Model.{Fair};
+ghost use Rattle.stage.specs.Easing.{asked, eased, easing_travel, share_taken, stride_taken};
 ghost use Rattle.stage.specs.Sounds.{ease_fair};
 
 use crate::ease::Ease;
@@ -40,6 +41,14 @@ impl Ease {
             Ease::Share(share) => saturating_f64_to_u32(left as f64 * share_taken(share)),
         }
     }
+
+    // Where a tick takes an axis with this setting. The profile of a start has no part in it.
+    pub fn travelled(self, position: i32, target: i32) -> i32
+        ensures value { result ≡ eased self position target }
+        ensures fair { Fair position result target }
+    {
+        toward(position, target, self.asked(target.abs_diff(position)))
+    }
 }
 
 impl Travel for Ease {
@@ -48,6 +57,6 @@ impl Travel for Ease {
     ghost fair = { ease_fair };
 
     fn travelled(self, position: i32, target: i32, _profile: Profile) -> i32 {
-        toward(position, target, self.asked(target.abs_diff(position)))
+        Ease::travelled(self, position, target)
     }
 }
