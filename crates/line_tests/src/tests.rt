@@ -118,10 +118,15 @@ fn replies(rt: HostRuntime) {
     ];
     let mut out = [b'_'; 16];
     let mut writer = Writer::at(&mut out, 2);
-    writer.list(items.iter());
+    writer.items(&items);
     writer.line_end();
     assert_eq!(rt; writer.offset(), 13);
     assert_eq!(rt; &out[0..16], b"__-1,2.0000\r\n___".as_slice());
+    let mut again = [b'_'; 16];
+    let mut writer = Writer::at(&mut again, 2);
+    writer.list(items.iter());
+    assert_eq!(rt; writer.offset(), 11);
+    assert_eq!(rt; &again[0..16], b"__-1,2.0000_____".as_slice());
     let mut small = [b'_'; 4];
     assert_eq!(rt; end_of_setting(&mut small, 1, 1_250_000), 4);
     assert_eq!(rt; &small[0..4], b"_1.2".as_slice());

@@ -79,6 +79,19 @@ impl Writer<'_> {
         }
     }
 
+    /// Writes the items of a slice, parted by commas.
+    #[tactic(auto, using(crate::proofs::Listed::list_none))]
+    pub fn items<T: Item>(&mut self, items: &[T])
+        ensures { self.new ≡ wrote self.old (list_text (map T.text items.now)) }
+    {
+        let mut behind = false;
+        for one in items {
+            self.when(behind, b',');
+            one.put(self);
+            behind = true;
+        }
+    }
+
     // A loop of its own: over `self.list(numbers.iter().map(..))` the check did not find the clause, which no function but a relation gives.
     /// Writes what is made of each number, parted by commas.
     #[tactic(auto, using(crate::proofs::Listed::list_none))]
