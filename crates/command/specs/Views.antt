@@ -1,7 +1,7 @@
 -- What the reader's values mean.
-use Rattle.std.specs.Prelude.{ℕ, ◌+◌, ◌^◌, Bool, List, [], ◌∷◌, map, length, Some, None, Option, nat_le}
+use Rattle.std.specs.Prelude.{ℕ, ◌+◌, ◌^◌, Bool, cond, List, [], ◌∷◌, map, length, Some, None, Option, nat_le}
 use Rattle.std.specs.Option.{option_map}
-use Rattle.command.specs.Held.{seen_text, parts_in, left_of, end_behind, limit_behind}
+use Rattle.command.specs.Held.{seen_span, parts_in, left_of, end_behind, limit_behind}
 use Rattle.command.specs.Lines.{Part, bare}
 use Rattle.command.specs.Commands.{Field, field, is_prefix, is_mnemonic, is_parameter, is_question, Command, question_of, parameters_of, all_commands}
 use Rattle.command.specs.declared.text.Text.{Text}
@@ -15,6 +15,10 @@ use Rattle.command.specs.declared.parameters.Parameters.{Parameters}
 -- a line and the bytes taken
 abbrev pub seen_line : Line → List ℕ × ℕ
 seen_line l = (l.bytes.now, l.taken)
+
+-- a part of a line
+abbrev pub seen_text : Text → Part
+seen_text t = (t.column, t.bytes.now)
 
 -- a field
 abbrev pub seen : lent.Field → Field
@@ -30,9 +34,17 @@ text_of (Mnemonic t) = t
 text_of (Parameter t) = t
 text_of (Question t) = t
 
--- a command
+-- a command whose rest ends at column 2 ^ 63 at the latest, as it does in every line
+abbrev pub countable : lent_command.Command → Bool
+countable c = nat_le (c.rest.column + length c.rest.bytes.now) (2 ^ 63)
+
+-- fields of such a command; none of any other
+abbrev pub when_countable : lent_command.Command → List Field → List Field
+when_countable c fs = cond (countable c) fs []
+
+-- a command; one that is made by hand and ends behind that column has no parameters
 abbrev pub said : lent_command.Command → Command
-said c = record { column = c.column; prefix = option_map seen c.prefix; letters = option_map seen c.letters; mnemonic = c.mnemonic; question = question_of (seen_text c.rest); parameters = parameters_of (seen_text c.rest) }
+said c = record { column = c.column; prefix = option_map seen c.prefix; letters = option_map seen c.letters; mnemonic = c.mnemonic; question = question_of (seen_text c.rest); parameters = when_countable c (parameters_of (seen_text c.rest)) }
 
 -- the commands still to come
 abbrev pub to_come : Commands → List Command
@@ -40,7 +52,7 @@ to_come s = all_commands (parts_in 59 s.rest.rest)
 
 -- what is left of the line, and the column where it begins
 abbrev pub seen_line_left : Commands → Option Part
-seen_line_left s = option_map seen_text s.rest.rest
+seen_line_left s = option_map seen_span s.rest.rest
 
 -- the column behind the line; 0 where nothing is left of it
 abbrev pub end_of : Commands → ℕ

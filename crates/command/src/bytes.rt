@@ -3,8 +3,10 @@ ghost use Rattle.std.specs.Prelude.{◌≡◌, ◌+◌, ◌≤◌, length, IfSom
 ghost use Rattle.std.specs.List.{prefix_len, suffix_len};
 ghost use Rattle.std.specs.Option.{option_map};
 ghost use Rattle.command.specs.Lines.{blank, apart, bare, front, past, behind};
-ghost use Rattle.command.specs.Held.{seen_text};
+ghost use Rattle.command.specs.Held.{seen_span};
+ghost use Rattle.command.specs.Views.{seen_text};
 
+use crate::span::Span;
 use crate::text::Text;
 
 /// How many bytes stand before the first separator.
@@ -38,34 +40,45 @@ fn blanks_behind(text: &[u8]) -> usize
     text.iter().rev().take_while(|b| is_blank(**b)).count()
 }
 
-impl<'a> Text<'a> {
-    /// The first `n` bytes.
-    pub(crate) fn first(self, n: usize) -> Text<'a>
-        requires { n ≤ length self.bytes.now }
-        ensures part { seen_text result ≡ front n (seen_text self.entry) }
-        ensures end { result.column + length result.bytes.now ≡ self.entry.column + n }
+impl<'a> Span<'a> {
+    /// The part as it is handed out.
+    pub(crate) fn text(self) -> Text<'a>
+        ensures part { seen_text result ≡ seen_span self.entry }
+        ensures end { result.column + length result.bytes.now ≡ self.entry.column + length self.entry.bytes.now }
     {
         Text {
+            bytes: self.bytes,
+            column: self.column,
+        }
+    }
+
+    /// The first `n` bytes.
+    pub(crate) fn first(self, n: usize) -> Span<'a>
+        requires { n ≤ length self.bytes.now }
+        ensures part { seen_span result ≡ front n (seen_span self.entry) }
+        ensures end { result.column + length result.bytes.now ≡ self.entry.column + n }
+    {
+        Span {
             bytes: &self.bytes[..n],
             column: self.column,
         }
     }
 
     /// What follows the first `n` bytes.
-    pub(crate) fn past(self, n: usize) -> Text<'a>
+    pub(crate) fn past(self, n: usize) -> Span<'a>
         requires { n ≤ length self.bytes.now }
-        ensures part { seen_text result ≡ past n (seen_text self.entry) }
+        ensures part { seen_span result ≡ past n (seen_span self.entry) }
         ensures end { result.column + length result.bytes.now ≡ self.entry.column + length self.entry.bytes.now }
     {
-        Text {
+        Span {
             bytes: &self.bytes[n..],
             column: self.column + n,
         }
     }
 
     /// What follows the byte at `n`, if there is one.
-    pub(crate) fn behind(self, n: usize) -> Option<Text<'a>>
-        ensures part { option_map seen_text result ≡ behind n (seen_text self.entry) }
+    pub(crate) fn behind(self, n: usize) -> Option<Span<'a>>
+        ensures part { option_map seen_span result ≡ behind n (seen_span self.entry) }
         ensures end { IfSome result (λ t. t.column + length t.bytes.now ≡ self.entry.column + length self.entry.bytes.now) }
     {
         if n < self.bytes.len() {
@@ -76,8 +89,8 @@ impl<'a> Text<'a> {
     }
 
     /// The part without the blanks around it.
-    pub(crate) fn trim(self) -> Text<'a>
-        ensures part { seen_text result ≡ bare (seen_text self.entry) }
+    pub(crate) fn trim(self) -> Span<'a>
+        ensures part { seen_span result ≡ bare (seen_span self.entry) }
         ensures within { result.column + length result.bytes.now ≤ self.entry.column + length self.entry.bytes.now }
     {
         let text = self.past(blanks_before(self.bytes));

@@ -10,6 +10,7 @@ pub mod names;
 pub mod parameters;
 mod parts;
 mod reading;
+mod span;
 mod splitting;
 pub mod text;
 mod values;

@@ -1,5 +1,5 @@
 // Reading the commands of a line one after another.
-ghost use Rattle.std.specs.Prelude.{◌≡◌, ◌+◌, ◌<◌, ◌≤◌, [], length, IfSome, IfNone, OnSome, Some};
+ghost use Rattle.std.specs.Prelude.{◌≡◌, ◌+◌, ◌^◌, ◌<◌, ◌≤◌, [], length, IfSome, IfNone, OnSome, Some};
 ghost use Rattle.std.specs.List.{sum_by};
 ghost use Rattle.command.specs.Commands.{least_size, commands_of};
 ghost use Rattle.command.specs.Held.{left_of};
@@ -10,7 +10,7 @@ use crate::command::Command;
 use crate::commands::Commands;
 use crate::parts::Parts;
 use crate::reading::read_command;
-use crate::text::Text;
+use crate::span::Span;
 
 /// States where the commands of a line stand; there is nothing to do.
 fn commands_placed(line: &[u8])
@@ -32,7 +32,7 @@ impl<'a> Commands<'a> {
         commands_placed(line);
         Commands {
             rest: Parts {
-                rest: Some(Text {
+                rest: Some(Span {
                     bytes: line,
                     column: 1,
                 }),
@@ -45,6 +45,7 @@ impl<'a> Commands<'a> {
     pub fn next_command(&mut self) -> Option<Command<'a>>
         ensures next { to_come self.old ≡ comes result (to_come self.new) }
         ensures done { IfNone result (to_come self.new ≡ []) }
+        ensures room { IfSome result (λ c. c.rest.column + length c.rest.bytes.now ≤ 2 ^ 63) }
         ensures column { IfSome result (λ c. c.column < end_of self.old) }
         ensures within { IfSome result (λ c. c.rest.column + length c.rest.bytes.now ≤ end_of self.old) }
         ensures end { end_of self.new ≤ end_of self.old }

@@ -1,12 +1,10 @@
 // Parts of a line that borrow it.
-ghost use Rattle.std.specs.Prelude.{◌+◌, ◌^◌, ◌≤◌, length};
 
 /// A part of a line: its bytes, and the column of the first, counted from 1.
 #[derive(Clone, Copy)]
 pub struct Text<'a> {
     pub bytes: &'a [u8],
     pub column: usize,
-    pub ghost countable: { column + length bytes.now ≤ 2 ^ 63 },
 }
 
 /// A field of a command.

@@ -1,18 +1,22 @@
 // What follows the mnemonic of a command: a question, or parameters one after another.
-ghost use Rattle.std.specs.Prelude.{◌≡◌, ◌+◌, ◌^◌, ◌<◌, ◌≤◌, [], length, IfSome, IfNone, OnSome};
+ghost use Rattle.std.specs.Prelude.{◌≡◌, ◌+◌, ◌^◌, ◌<◌, ◌≤◌, [], length, if◌then◌else◌, Some, None, IfSome, IfNone, OnSome};
 ghost use Rattle.std.specs.Option.{option_map};
 ghost use Rattle.number.specs.Digits.{number};
-ghost use Rattle.command.specs.Held.{left_of};
+ghost use Rattle.command.specs.Held.{seen_span, left_of};
 ghost use Rattle.command.specs.Commands.{prefix_number, capped};
-ghost use Rattle.command.specs.Views.{seen, text_of, said, to_give, limit_of, gives};
+ghost use Rattle.command.specs.Views.{seen, seen_text, text_of, said, countable, to_give, limit_of, gives};
 
 use crate::command::Command;
 use crate::parameters::Parameters;
 use crate::parts::Parts;
-use crate::text::Field;
+use crate::span::Span;
+use crate::text::{Field, Text};
 
 /// From this number on all numbers are alike: there are never so many axes or groups.
 const CAP: u32 = 1000;
+
+/// The last column that is counted, far behind the end of any line.
+const LAST: usize = 1 << 63;
 
 /// The number that digits write, however many they are; 1000 where it is larger.
 fn capped_number(digits: &[u8]) -> u32
@@ -44,6 +48,18 @@ impl<'a> Command<'a> {
         }
     }
 
+    /// What follows, where it ends at a column that can be counted, as it does in every command of a line.
+    fn counted(&self) -> Option<Span<'a>>
+        ensures { option_map seen_span result ≡ (if countable self.now then Some (seen_text self.now.rest) else None) }
+    {
+        let Text { bytes, column } = self.rest;
+        if column <= LAST && bytes.len() <= LAST - column {
+            Some(Span { bytes, column })
+        } else {
+            None
+        }
+    }
+
     /// The parameters; none where the rest is nothing or a question.
     #[tactic(auto, using(crate::proofs::Least::parameters_few), unfolding(crate::specs::Commands::parameters_from))]
     pub fn parameters(&self) -> Parameters<'a>
@@ -58,7 +74,7 @@ impl<'a> Command<'a> {
             },
             _ => Parameters {
                 rest: Parts {
-                    rest: Some(self.rest),
+                    rest: self.counted(),
                 },
             },
         }
@@ -70,12 +86,13 @@ impl<'a> Parameters<'a> {
     pub fn next_parameter(&mut self) -> Option<Field<'a>>
         ensures next { to_give self.old ≡ gives result (to_give self.new) }
         ensures done { IfNone result (to_give self.new ≡ []) }
+        ensures room { IfSome result (λ f. (text_of f).column + length (text_of f).bytes.now ≤ 2 ^ 63) }
         ensures within { IfSome result (λ f. (text_of f).column + length (text_of f).bytes.now < limit_of self.old) }
         ensures limit { limit_of self.new ≤ limit_of self.old }
         ensures less { OnSome result (left_of self.new.rest < left_of self.old.rest) }
     {
         let part = self.rest.next()?;
-        Some(Field::Parameter(part.trim()))
+        Some(Field::Parameter(part.trim().text()))
     }
 }
 
