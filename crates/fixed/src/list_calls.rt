@@ -1,4 +1,4 @@
-ghost use Rattle.std.specs.Prelude.{◌≡◌, ◌≤◌, [], length, drop, replicate, min, nat_le, nat_eq, slice_set};
+ghost use Rattle.std.specs.Prelude.{◌≡◌, ◌≤◌, [], length, take, drop, replicate, min, nat_le, nat_eq, slice_set};
 ghost use Rattle.std.specs.List.{slice_get};
 ghost use Rattle.fixed.specs.Lists.{held, listed, fitting, appended};
 
@@ -40,11 +40,19 @@ impl<T: Copy, const N: usize> FixedList<T, N> {
         Some(FixedList { items, len })
     }
 
+    // All N places: the items, and the unused ones behind them.
+    pub fn table(&self) -> &[T]
+        ensures size { length result.now ≡ N }
+        ensures held { take (length (held self.now)) result.now ≡ held self.now }
+    {
+        &self.items
+    }
+
     pub fn as_slice(&self) -> &[T]
         ensures value { result.now ≡ held self.now }
         ensures few { length result.now ≤ N }
     {
-        &self.items[..self.len]
+        &self.table()[..self.len]
     }
 
     pub fn len(&self) -> usize

@@ -3,6 +3,7 @@ use Rattle.std.specs.Prelude.{cond, List, map, length, ℤ, Some, None, Option, 
 use Rattle.fixed.specs.Lists.{held}
 use Rattle.queue.specs.declared.waypoint.Waypoint.{Waypoint}
 use Rattle.queue.specs.declared.route.Route.{Route}
+use Rattle.queue.specs.Queue.{waiting}
 
 abbrev pub positions_of : Waypoint → List ℤ
 positions_of w = held w.list
@@ -17,4 +18,4 @@ abbrev pub waypoint_from : List ℤ → Option (List ℤ)
 waypoint_from ps = cond (nat_le (length ps) 12) (Some ps) None
 
 abbrev pub waypoints : Route → List (List ℤ)
-waypoints r = map positions_of (held r.list)
+waypoints r = map positions_of (waiting r.slots r.len)

@@ -1,8 +1,12 @@
+ghost use Rattle.std.specs.Prelude.{◌≡◌, ◌≤◌, length};
+
 use crate::error_entry::ErrorEntry;
-use fixed::FixedList;
 
 // The errors that wait, ten at most.
 #[derive(Clone, Copy)]
 pub struct ErrorQueue {
-    pub(crate) list: FixedList<ErrorEntry, { ErrorEntry::MOST }>,
+    pub(crate) slots: [ErrorEntry; 10],
+    pub(crate) len: usize,
+    ghost room: { length slots ≡ 10 },
+    ghost few: { len ≤ 10 },
 }

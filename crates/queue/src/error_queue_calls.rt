@@ -6,7 +6,7 @@ ghost use Rattle.std.specs.List.{slice_get};
 use crate::error_entry::ErrorEntry;
 use crate::error_queue::ErrorQueue;
 use crate::fault::Fault;
-use fixed::FixedList;
+use crate::slots;
 
 impl ErrorQueue {
     // No `Default` beside it: nothing generic makes one.
@@ -18,7 +18,8 @@ impl ErrorQueue {
             column: 0,
         };
         ErrorQueue {
-            list: FixedList::empty(unused),
+            slots: [unused; 10],
+            len: 0,
         }
     }
 
@@ -26,10 +27,7 @@ impl ErrorQueue {
     pub fn push(&mut self, entry: ErrorEntry)
         ensures { entries self.new ≡ pushed 10 (entries self.old) entry }
     {
-        if self.list.is_full() {
-            let _ = self.list.pop_front();
-        }
-        let _ = self.list.push(entry);
+        slots::push(&mut self.slots, &mut self.len, entry);
     }
 
     // Takes the oldest out.
@@ -37,25 +35,28 @@ impl ErrorQueue {
         ensures value { result ≡ slice_get (entries self.old) 0 }
         ensures list { entries self.new ≡ drop 1 (entries self.old) }
     {
-        self.list.pop_front()
+        slots::take(&mut self.slots, &mut self.len)
     }
 
     // The n-th oldest, counted from 1. It stays.
     pub fn nth(&self, n: usize) -> Option<ErrorEntry>
         ensures { result ≡ nth_error n (entries self.now) }
     {
-        self.list.get(n.checked_sub(1)?)
+        if n == 0 {
+            return None;
+        }
+        slots::nth_oldest(&self.slots, self.len, n - 1)
     }
 
     pub fn count(&self) -> usize
         ensures { result ≡ length (entries self.now) }
     {
-        self.list.len()
+        slots::count(&self.slots, self.len)
     }
 
     pub fn clear(&mut self)
         ensures { entries self.new ≡ [] }
     {
-        self.list.clear();
+        slots::clear(&mut self.slots, &mut self.len);
     }
 }

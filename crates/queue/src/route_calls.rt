@@ -4,6 +4,7 @@ ghost use Rattle.queue.specs.Waypoints.{positions_of, waypoints, shown};
 ghost use Rattle.std.specs.List.{slice_get};
 
 use crate::route::Route;
+use crate::slots;
 use crate::waypoint::Waypoint;
 use fixed::FixedList;
 
@@ -16,7 +17,8 @@ impl Route {
             list: FixedList::empty(0),
         };
         Route {
-            list: FixedList::empty(unused),
+            slots: [unused; 8],
+            len: 0,
         }
     }
 
@@ -24,7 +26,7 @@ impl Route {
     pub fn add(&mut self, w: Waypoint) -> bool
         ensures { (result, waypoints self.new) ≡ added 8 (waypoints self.old) (positions_of w) }
     {
-        self.list.push(w).is_ok()
+        slots::add(&mut self.slots, &mut self.len, w)
     }
 
     // Takes the first out.
@@ -32,18 +34,18 @@ impl Route {
         ensures value { shown result ≡ slice_get (waypoints self.old) 0 }
         ensures list { waypoints self.new ≡ drop 1 (waypoints self.old) }
     {
-        self.list.pop_front()
+        slots::take(&mut self.slots, &mut self.len)
     }
 
     pub fn count(&self) -> usize
         ensures { result ≡ length (waypoints self.now) }
     {
-        self.list.len()
+        slots::count(&self.slots, self.len)
     }
 
     pub fn clear(&mut self)
         ensures { waypoints self.new ≡ [] }
     {
-        self.list.clear();
+        slots::clear(&mut self.slots, &mut self.len);
     }
 }
