@@ -21,7 +21,7 @@ said_by n [] = refl
 said_by n (f ∷ fs) = ap (λ b. eqb (units f) n || b) (said_by n fs)
 
 -- being listed last is being listed first
-has_last : (n x : ℕ) (ms : List ℕ) → has n (ms ++ x ∷ []) ≡ (eqb x n || has n ms)
+pub has_last : (n x : ℕ) (ms : List ℕ) → has n (ms ++ x ∷ []) ≡ (eqb x n || has n ms)
 has_last n x [] = refl
 has_last n x (m ∷ ms) = ap (λ b. eqb m n || b) (has_last n x ms) ∙ swap (eqb m n) (eqb x n) (has n ms)
   where
@@ -32,14 +32,14 @@ has_last n x (m ∷ ms) = ap (λ b. eqb m n || b) (has_last n x ms) ∙ swap (eq
     swap false false c = refl
 
 -- which earlier ones there are matters, not their order
-each_new_same : (xs ys : List ℕ) (fs : List Field) → ((n : ℕ) → has n xs ≡ has n ys) → each_new xs fs ≡ each_new ys fs
+pub each_new_same : (xs ys : List ℕ) (fs : List Field) → ((n : ℕ) → has n xs ≡ has n ys) → each_new xs fs ≡ each_new ys fs
 each_new_same xs ys [] h = refl
 each_new_same xs ys (f ∷ fs) h =
     ap (λ b. needs (not b) (entry GroupAxisDuplicated f.column) ∷ each_new (units f ∷ xs) fs) (h (units f))
     ∙ ap (λ ts. needs (not (has (units f) ys)) (entry GroupAxisDuplicated f.column) ∷ ts) (each_new_same (units f ∷ xs) (units f ∷ ys) fs (λ n. ap (λ b. eqb (units f) n || b) (h n)))
 
 -- one more is looked at
-front_more : {X : Type 0} (ps : List X) (i : ℕ) (f : X) (rest : List X) → drop i ps ≡ f ∷ rest → (take (suc i) ps ≡ take i ps ++ f ∷ []) × (drop (suc i) ps ≡ rest)
+pub front_more : {X : Type 0} (ps : List X) (i : ℕ) (f : X) (rest : List X) → drop i ps ≡ f ∷ rest → (take (suc i) ps ≡ take i ps ++ f ∷ []) × (drop (suc i) ps ≡ rest)
 front_more [] zero f rest e = absurd (grind arith)
 front_more [] (suc i) f rest e = absurd (grind arith)
 front_more (p ∷ ps) zero f rest e = (cc, cc)
@@ -56,7 +56,7 @@ new_each ps i (f ∷ rest) e =
     ap (λ ts. needs (not (has (units f) earlier)) (entry GroupAxisDuplicated f.column) ∷ ts) (ap (λ j. flat_map (new_test ps) (enumerate_from j rest)) (add-one i) ∙ (new_each ps (suc i) rest front.1 ∙ same))
 
 -- a whole number within bounds is not above the higher one
-between_high : (low high : ℕ) (o : Option ℕ) → between low high o ≡ true → number_or 0 o ≤ high
+pub between_high : (low high : ℕ) (o : Option ℕ) → between low high o ≡ true → number_or 0 o ≤ high
 between_high low high (Some n) h = grind (arith, nat_tests)
 between_high low high None h = absurd (grind arith)
 
@@ -64,7 +64,7 @@ ok_not_err : {e : ErrorEntry} → ◌≡◌ {A = Result Unit ErrorEntry} (Ok tt)
 ok_not_err p = grind arith
 
 -- the first of axes that were all found to be there is there, and the others are
-first_axis : (k : Core) (f : Field) (fs : List Field) → judged (each_axis k (f ∷ fs)) ≡ Ok tt → (units f ≤ axis_count k) × (judged (each_axis k fs) ≡ Ok tt)
+pub first_axis : (k : Core) (f : Field) (fs : List Field) → judged (each_axis k (f ∷ fs)) ≡ Ok tt → (units f ≤ axis_count k) × (judged (each_axis k fs) ≡ Ok tt)
 first_axis k f fs h = by_test (whole_within 1 (axis_count k) (value f)) refl
   where
     by_test : (b : Bool) → whole_within 1 (axis_count k) (value f) ≡ b → (units f ≤ axis_count k) × (judged (each_axis k fs) ≡ Ok tt)

@@ -39,11 +39,13 @@ fn starting<D: Drive>(named: &AxisCase<D>) -> Result<(), ErrorEntry>
 fn figures<D: Drive>(named: &AxisCase<D>) -> Result<(), ErrorEntry>
     ensures { result ≡ judged (from_figures (seen D.Drive.axes named.now.case.view) named.now.case.m (said named.now.case.command.now)) }
 {
-    velocity_out(named)?;
+    let case = &named.case;
+    let desk = case.view.desk;
+    velocity_out(desk, case.m, case.command, named.axis)?;
     axis_parameter_out(named)?;
-    acceleration_out(named)?;
-    group_figure_out(&named.case)?;
-    group_figure_over(&named.case)?;
+    acceleration_out(desk, case.m, case.command, named.axis)?;
+    group_figure_out(case.m, case.command)?;
+    group_figure_over(desk, case.m, case.command)?;
     starting(named)
 }
 
@@ -62,10 +64,12 @@ fn axes<D: Drive>(named: &AxisCase<D>) -> Result<(), ErrorEntry>
 fn doing<D: Drive>(named: &AxisCase<D>) -> Result<(), ErrorEntry>
     ensures { result ≡ judged (R.doing (seen D.Drive.axes named.now.case.view) named.now.case.m (said named.now.case.command.now)) }
 {
+    let case = &named.case;
+    let desk = case.view.desk;
     in_group(named)?;
-    parameter_out(&named.case)?;
-    parameter_missing(&named.case)?;
-    group_parameter_missing(&named.case)?;
+    parameter_out(desk, case.m, case.command)?;
+    parameter_missing(case.m, case.command)?;
+    group_parameter_missing(desk, case.m, case.command)?;
     axes(named)
 }
 
@@ -81,8 +85,8 @@ fn ignores_prefix(m: Mnemonic) -> bool
 fn doing_without_prefix<D: Drive>(case: &Case<D>) -> Result<(), ErrorEntry>
     ensures { result ≡ judged (R.parameter_out (seen D.Drive.axes case.now.view) case.now.m (said case.now.command.now) ++ R.parameter_missing case.now.m (said case.now.command.now)) }
 {
-    parameter_out(case)?;
-    parameter_missing(case)
+    parameter_out(case.view.desk, case.m, case.command)?;
+    parameter_missing(case.m, case.command)
 }
 
 /// A case with the number of the axis that its command names.
@@ -101,7 +105,7 @@ fn with_axis<'a, D>(case: &Case<'a, D>) -> AxisCase<'a, D>
 fn meets<D: Drive>(case: &Case<D>) -> Result<(), ErrorEntry>
     ensures { result ≡ judged (R.tests_of (seen D.Drive.axes case.now.view) (Some case.now.m) (said case.now.command.now)) }
 {
-    naming(case)?;
+    naming(case.view.desk, case.m, case.command)?;
     if asks(case.m, case.command) {
         return Ok(());
     }

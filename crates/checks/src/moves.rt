@@ -81,7 +81,7 @@ fn first_unpowered<D: Drive>(drive: &D, axes: &[u8]) -> Option<u8>
 fn members_powered<D: Drive>(case: &Case<D>) -> Result<(), ErrorEntry>
     ensures { result ≡ judged (map (λ n. R.needs (powered (seen D.Drive.axes case.now.view) n) (R.entry (MotorNotEnabled n) (said case.now.command.now).column)) (members (seen D.Drive.axes case.now.view) (R.group_named (seen D.Drive.axes case.now.view) (said case.now.command.now)))) }
 {
-    let members = members_named(case);
+    let members = members_named(case.view.desk, case.command);
     match first_unpowered(case.view.drive, members.axes()) {
         Some(axis) => Err(ErrorEntry {
             fault: Fault::MotorNotEnabled(axis),
@@ -140,7 +140,7 @@ fn is_within(desk: &Desk, axis: u8, field: &Field) -> Result<(), ErrorEntry>
 fn members_within<D: Drive>(case: &Case<D>) -> Result<(), ErrorEntry>
     ensures { result ≡ judged (R.each_within (seen D.Drive.axes case.now.view) (members (seen D.Drive.axes case.now.view) (R.group_named (seen D.Drive.axes case.now.view) (said case.now.command.now))) (said case.now.command.now).parameters) }
 {
-    let members = members_named(case);
+    let members = members_named(case.view.desk, case.command);
     let mut pairs = members.axes().iter().zip(case.command.parameters());
     pairs.try_for_each(|(axis, field)| is_within(case.view.desk, *axis, &field))
 }

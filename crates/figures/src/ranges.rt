@@ -7,15 +7,15 @@ ghost use Rattle.desk.specs.Axes.{no_axis};
 ghost use Rattle.desk.specs.Desks.{model_of};
 ghost use Rattle.asked.specs.Seen.{seen};
 ghost use Rattle.rules.specs.Kinds.{among};
-ghost use Rattle.rules.specs.World.{members, no_drive_axis};
+ghost use Rattle.rules.specs.World.{core_of, members, no_drive_axis};
 ghost use Rattle.rules.specs.Refusals as R;
 ghost use Rattle.shape.specs.Verdicts.{judged};
 
-use asked::Case;
 use asked::desk_view::{left, max_acceleration, max_velocity, right};
 use asked::drive_view::{position, reach};
 use asked::kinds::sets_group_figure;
 use asked::values::{given, given_column, whole_within};
+use command::command::Command;
 use command::mnemonic::Mnemonic;
 use desk::Desk;
 use drive::Drive;
@@ -25,22 +25,18 @@ use shape::entry::{test, test_where};
 use shape::naming::members_named;
 
 /// x24, x10: VA is not above 0, or above the maximum.
-pub fn velocity_out<D: Drive>(named: &AxisCase<D>) -> Result<(), ErrorEntry>
-    ensures { result ≡ judged (R.velocity_out (seen D.Drive.axes named.now.case.view) named.now.case.m (said named.now.case.command.now)) }
+pub fn velocity_out(desk: &Desk, m: Mnemonic, command: &Command, axis: u8) -> Result<(), ErrorEntry>
+    requires { R.axis_named (said command.now) ≡ axis }
+    ensures { result ≡ judged (R.velocity_out (core_of desk.now []) m (said command.now)) }
 {
-    let case = &named.case;
-    let Mnemonic::Va = case.m else {
+    let Mnemonic::Va = m else {
         return Ok(());
     };
-    let velocity = given(case.command);
-    let column = given_column(case.command);
-    let most = i64::from(max_velocity(case.view.desk, usize::from(named.axis)));
-    test(velocity > 0, Fault::VelocityOutOfRange(named.axis), column)?;
-    test(
-        velocity <= most,
-        Fault::VelocityExceeded(named.axis),
-        column,
-    )
+    let velocity = given(command);
+    let column = given_column(command);
+    let most = i64::from(max_velocity(desk, usize::from(axis)));
+    test(velocity > 0, Fault::VelocityOutOfRange(axis), column)?;
+    test(velocity <= most, Fault::VelocityExceeded(axis), column)
 }
 
 /// Whether a position is within the reach of an axis.
@@ -100,64 +96,68 @@ pub fn axis_parameter_out<D: Drive>(named: &AxisCase<D>) -> Result<(), ErrorEntr
 }
 
 /// x11: AC or AG above the maximum.
-pub fn acceleration_out<D: Drive>(named: &AxisCase<D>) -> Result<(), ErrorEntry>
-    ensures { result ≡ judged (R.acceleration_out (seen D.Drive.axes named.now.case.view) named.now.case.m (said named.now.case.command.now)) }
+pub fn acceleration_out(
+    desk: &Desk,
+    m: Mnemonic,
+    command: &Command,
+    axis: u8,
+) -> Result<(), ErrorEntry>
+    requires { R.axis_named (said command.now) ≡ axis }
+    ensures { result ≡ judged (R.acceleration_out (core_of desk.now []) m (said command.now)) }
 {
-    let case = &named.case;
-    let most = i64::from(max_acceleration(case.view.desk, usize::from(named.axis)));
+    let most = i64::from(max_acceleration(desk, usize::from(axis)));
     test_where(
-        matches!(case.m, Mnemonic::Ac | Mnemonic::Ag),
-        given(case.command) <= most,
-        Fault::AccelerationExceeded(named.axis),
-        given_column(case.command),
+        matches!(m, Mnemonic::Ac | Mnemonic::Ag),
+        given(command) <= most,
+        Fault::AccelerationExceeded(axis),
+        given_column(command),
     )
 }
 
 /// 30: HV, HA or HD is not above 0.
-pub fn group_figure_out<D>(case: &Case<D>) -> Result<(), ErrorEntry>
-    ensures { result ≡ judged (R.group_figure_out case.now.m (said case.now.command.now)) }
+pub fn group_figure_out(m: Mnemonic, command: &Command) -> Result<(), ErrorEntry>
+    ensures { result ≡ judged (R.group_figure_out m (said command.now)) }
 {
     test_where(
-        sets_group_figure(case.m),
-        given(case.command) > 0,
+        sets_group_figure(m),
+        given(command) > 0,
         Fault::GroupParameterOutOfRange,
-        given_column(case.command),
+        given_column(command),
     )
 }
 
 /// Whether no member of the group that the command names has a maximum below the command's figure.
-fn no_member_below<D: Drive, F: Fn(usize) -> u32>(case: &Case<D>, maximum: F) -> bool
+fn no_member_below<F: Fn(usize) -> u32>(desk: &Desk, command: &Command, maximum: F) -> bool
     requires { F.IsAlwaysCallable maximum }
-    ensures { (most : ℕ → ℕ) → ((n r : ℕ) → F.post maximum n r → r ≡ most n) → result ≡ R.none_below (R.given (said case.now.command.now)) (map most (members (seen D.Drive.axes case.now.view) (R.group_named (seen D.Drive.axes case.now.view) (said case.now.command.now)))) }
+    ensures { (most : ℕ → ℕ) → ((n r : ℕ) → F.post maximum n r → r ≡ most n) → result ≡ R.none_below (R.given (said command.now)) (map most (members (core_of desk.now []) (R.group_named (core_of desk.now []) (said command.now)))) }
 {
-    let z = given(case.command);
-    members_named(case)
+    let z = given(command);
+    members_named(desk, command)
         .axes()
         .iter()
         .all(|axis| z <= i64::from(maximum(usize::from(*axis))))
 }
 
 /// 31, 32, 33: above the smallest maximum of a member.
-pub fn group_figure_over<D: Drive>(case: &Case<D>) -> Result<(), ErrorEntry>
-    ensures { result ≡ judged (R.group_figure_over (seen D.Drive.axes case.now.view) case.now.m (said case.now.command.now)) }
+pub fn group_figure_over(desk: &Desk, m: Mnemonic, command: &Command) -> Result<(), ErrorEntry>
+    ensures { result ≡ judged (R.group_figure_over (core_of desk.now []) m (said command.now)) }
 {
-    let desk = case.view.desk;
-    let column = given_column(case.command);
+    let column = given_column(command);
     let velocity = |axis: usize| max_velocity(desk, axis);
     let ramp = |axis: usize| max_acceleration(desk, axis);
-    match case.m {
+    match m {
         Mnemonic::Hv => test(
-            no_member_below(case, velocity),
+            no_member_below(desk, command, velocity),
             Fault::GroupVelocityExceeded,
             column,
         ),
         Mnemonic::Ha => test(
-            no_member_below(case, ramp),
+            no_member_below(desk, command, ramp),
             Fault::GroupAccelerationExceeded,
             column,
         ),
         Mnemonic::Hd => test(
-            no_member_below(case, ramp),
+            no_member_below(desk, command, ramp),
             Fault::GroupDecelerationExceeded,
             column,
         ),

@@ -2,6 +2,7 @@
 #![tactic(auto)]
 
 mod axis_case;
+mod desk_case;
 pub mod entry;
 pub mod naming;
 pub mod parameters;

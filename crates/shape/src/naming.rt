@@ -1,27 +1,27 @@
 // Whether the command names what is there: the axis, or the group.
-ghost use Rattle.std.specs.Prelude.{◌≡◌, not, ◌&&◌};
+ghost use Rattle.std.specs.Prelude.{◌≡◌, not, ◌&&◌, []};
 ghost use Rattle.command.specs.Views.{said};
 ghost use Rattle.desk.specs.Tables.{there};
 ghost use Rattle.desk.specs.Desks.{model_of, in_use};
 ghost use Rattle.groups.specs.Groups.{members_of};
-ghost use Rattle.rules.specs.World.{members};
-ghost use Rattle.asked.specs.Seen.{seen};
+ghost use Rattle.rules.specs.World.{core_of, members};
 ghost use Rattle.command.specs.declared.mnemonic.Mnemonic.TheVariants.{Hn};
 ghost use Rattle.rules.specs.Kinds.{is};
 ghost use Rattle.rules.specs.Refusals as R;
 ghost use Rattle.shape.specs.Verdicts.{judged};
 
+use crate::desk_case::DeskCase;
 use crate::entry::test_where;
-use asked::Case;
 use asked::kinds::{names_axis, names_group};
 use asked::naming::{asks, axis_named, group_named};
+use command::command::Command;
 use command::mnemonic::Mnemonic;
-use drive::Drive;
+use desk::Desk;
 use groups::Members;
 use queue::{ErrorEntry, Fault};
 
 /// 37: an axis command, but WS, lacks its prefix.
-fn axis_missing<D>(case: &Case<D>) -> Result<(), ErrorEntry>
+fn axis_missing(case: &DeskCase) -> Result<(), ErrorEntry>
     ensures { result ≡ judged (R.axis_missing case.now.m (said case.now.command.now)) }
 {
     test_where(
@@ -33,40 +33,38 @@ fn axis_missing<D>(case: &Case<D>) -> Result<(), ErrorEntry>
 }
 
 /// Whether the desk has the axis that the command names.
-fn is_axis<D: Drive>(case: &Case<D>) -> bool
-    ensures { result ≡ there (R.axis_named (said case.now.command.now)) (model_of case.now.view.desk.now).axes }
+fn is_axis(case: &DeskCase) -> bool
+    ensures { result ≡ there (R.axis_named (said case.now.command.now)) (model_of case.now.desk.now).axes }
 {
     let axis = axis_named(case.command);
-    1 <= axis && axis <= case.view.desk.axis_count()
+    1 <= axis && axis <= case.desk.axis_count()
 }
 
 /// Whether the desk has the group that the command names.
-fn is_group<D: Drive>(case: &Case<D>) -> bool
-    ensures { result ≡ there (R.group_named (seen D.Drive.axes case.now.view) (said case.now.command.now)) (model_of case.now.view.desk.now).groups }
+fn is_group(case: &DeskCase) -> bool
+    ensures { result ≡ there (R.group_named (core_of case.now.desk.now []) (said case.now.command.now)) (model_of case.now.desk.now).groups }
 {
-    let group = group_named(case.view.desk, case.command);
-    1 <= group && group <= case.view.desk.group_count()
+    let group = group_named(case.desk, case.command);
+    1 <= group && group <= case.desk.group_count()
 }
 
 /// The members of the group that the command names.
-pub fn members_named<D: Drive>(case: &Case<D>) -> Members
-    ensures { members_of result ≡ members (seen D.Drive.axes case.now.view) (R.group_named (seen D.Drive.axes case.now.view) (said case.now.command.now)) }
+pub fn members_named(desk: &Desk, command: &Command) -> Members
+    ensures { members_of result ≡ members (core_of desk.now []) (R.group_named (core_of desk.now []) (said command.now)) }
 {
-    case.view
-        .desk
-        .members(group_named(case.view.desk, case.command))
+    desk.members(group_named(desk, command))
 }
 
 /// Whether the group that the command names has members.
-fn is_in_use<D: Drive>(case: &Case<D>) -> bool
-    ensures { result ≡ in_use (R.group_named (seen D.Drive.axes case.now.view) (said case.now.command.now)) (model_of case.now.view.desk.now) }
+fn is_in_use(case: &DeskCase) -> bool
+    ensures { result ≡ in_use (R.group_named (core_of case.now.desk.now []) (said case.now.command.now)) (model_of case.now.desk.now) }
 {
-    members_named(case).count() > 0
+    members_named(case.desk, case.command).count() > 0
 }
 
 /// 9: no such axis.
-fn axis_out<D: Drive>(case: &Case<D>) -> Result<(), ErrorEntry>
-    ensures { result ≡ judged (R.axis_out (seen D.Drive.axes case.now.view) case.now.m (said case.now.command.now)) }
+fn axis_out(case: &DeskCase) -> Result<(), ErrorEntry>
+    ensures { result ≡ judged (R.axis_out (core_of case.now.desk.now []) case.now.m (said case.now.command.now)) }
 {
     let there = is_axis(case);
     test_where(
@@ -84,20 +82,20 @@ fn axis_out<D: Drive>(case: &Case<D>) -> Result<(), ErrorEntry>
 }
 
 /// 13: a needed group prefix is missing.
-fn group_missing<D: Drive>(case: &Case<D>) -> Result<(), ErrorEntry>
-    ensures { result ≡ judged (R.group_missing (seen D.Drive.axes case.now.view) case.now.m (said case.now.command.now)) }
+fn group_missing(case: &DeskCase) -> Result<(), ErrorEntry>
+    ensures { result ≡ judged (R.group_missing (core_of case.now.desk.now []) case.now.m (said case.now.command.now)) }
 {
     test_where(
         names_group(case.m),
-        case.command.prefix_number().is_some() || case.view.desk.group_count() == 1,
+        case.command.prefix_number().is_some() || case.desk.group_count() == 1,
         Fault::GroupMissing,
         case.command.column,
     )
 }
 
 /// 14: no such group.
-fn group_out<D: Drive>(case: &Case<D>) -> Result<(), ErrorEntry>
-    ensures { result ≡ judged (R.group_out (seen D.Drive.axes case.now.view) case.now.m (said case.now.command.now)) }
+fn group_out(case: &DeskCase) -> Result<(), ErrorEntry>
+    ensures { result ≡ judged (R.group_out (core_of case.now.desk.now []) case.now.m (said case.now.command.now)) }
 {
     test_where(
         names_group(case.m),
@@ -108,15 +106,15 @@ fn group_out<D: Drive>(case: &Case<D>) -> Result<(), ErrorEntry>
 }
 
 /// Whether the command is one that forms a group: HN that does not ask.
-fn forms_group<D>(case: &Case<D>) -> bool
+fn forms_group(case: &DeskCase) -> bool
     ensures { result ≡ (is case.now.m Hn && not (R.asking case.now.m (said case.now.command.now))) }
 {
     matches!(case.m, Mnemonic::Hn) && !asks(case.m, case.command)
 }
 
 /// 16: HN, not asking, names a group in use.
-fn group_taken<D: Drive>(case: &Case<D>) -> Result<(), ErrorEntry>
-    ensures { result ≡ judged (R.group_taken (seen D.Drive.axes case.now.view) case.now.m (said case.now.command.now)) }
+fn group_taken(case: &DeskCase) -> Result<(), ErrorEntry>
+    ensures { result ≡ judged (R.group_taken (core_of case.now.desk.now []) case.now.m (said case.now.command.now)) }
 {
     test_where(
         forms_group(case),
@@ -127,8 +125,8 @@ fn group_taken<D: Drive>(case: &Case<D>) -> Result<(), ErrorEntry>
 }
 
 /// 15: any other group command, or HN?, names one that is not.
-fn group_free<D: Drive>(case: &Case<D>) -> Result<(), ErrorEntry>
-    ensures { result ≡ judged (R.group_free (seen D.Drive.axes case.now.view) case.now.m (said case.now.command.now)) }
+fn group_free(case: &DeskCase) -> Result<(), ErrorEntry>
+    ensures { result ≡ judged (R.group_free (core_of case.now.desk.now []) case.now.m (said case.now.command.now)) }
 {
     test_where(
         names_group(case.m) && !forms_group(case),
@@ -140,13 +138,14 @@ fn group_free<D: Drive>(case: &Case<D>) -> Result<(), ErrorEntry>
 
 /// What every command meets, asking or not.
 #[tactic(auto, using(crate::proofs::Chains::in_order))]
-pub fn naming<D: Drive>(case: &Case<D>) -> Result<(), ErrorEntry>
-    ensures { result ≡ judged (R.naming (seen D.Drive.axes case.now.view) case.now.m (said case.now.command.now)) }
+pub fn naming(desk: &Desk, m: Mnemonic, command: &Command) -> Result<(), ErrorEntry>
+    ensures { result ≡ judged (R.naming (core_of desk.now []) m (said command.now)) }
 {
-    axis_missing(case)?;
-    axis_out(case)?;
-    group_missing(case)?;
-    group_out(case)?;
-    group_taken(case)?;
-    group_free(case)
+    let case = DeskCase { desk, m, command };
+    axis_missing(&case)?;
+    axis_out(&case)?;
+    group_missing(&case)?;
+    group_out(&case)?;
+    group_taken(&case)?;
+    group_free(&case)
 }

@@ -3,8 +3,7 @@ use Rattle.std.specs.List.{list_all}
 use Rattle.std.proofs.lemmas.Iterator.{YieldsList-from_slice}
 use Rattle.std.proofs.lemmas.Iterator.Search.{all_from_yields_List}
 use Rattle.command.specs.Views.{said}
-use Rattle.asked.specs.Seen.{seen}
-use Rattle.rules.specs.World.{members}
+use Rattle.rules.specs.World.{core_of, members}
 use Rattle.rules.specs.Refusals as R
 use Rattle.figures.proofs.ranges.no_member_below.Goals as goal
 
@@ -14,8 +13,8 @@ all_above z most (n ∷ ns) = ap (λ b. int_le z (pos (most n)) && b) (all_above
 
 pub returns : goal.returns
 returns g c = λ most same.
-    let k = seen g.D.Drive.axes c.args.case.now.view in
-    let s = said c.args.case.now.command.now in
+    let k = core_of c.args.desk.now [] in
+    let s = said c.args.command.now in
     let ns = members k (R.group_named k s) in
     let z = R.given s in
     all_from_yields_List (λ n. int_le z (pos (most n))) _ _ _ c.all.ensures.ran (YieldsList-from_slice ns (c.iter.ensures.rest ∙ (c.axes.ensures ∙ c.members_named.ensures))) (λ x b q k. search (rules, same)) ∙ all_above z most ns

@@ -1,4 +1,4 @@
-use Rattle.std.proofs.Common.{ap, ◌∙◌}
+use Rattle.std.proofs.Common.{[], ap, ◌∙◌}
 use Rattle.groups.specs.Groups.{free_group}
 use Rattle.command.specs.Views.{said}
 use Rattle.desk.specs.Desks.{model_of, group_at}
@@ -8,7 +8,7 @@ use Rattle.asked.proofs.Stands.{row_capped, few_groups}
 use Rattle.shape.proofs.naming.members_named.Goals as goal
 
 pub returns : goal.returns
-returns g c =
-    let d = c.args.case.now.view.desk.now in
-    let row = row_capped free_group (group_named (core_of d (g.D.Drive.axes c.args.case.now.view.drive.now)) (said c.args.case.now.command.now)) (model_of d).groups (few_groups d) in
+returns c =
+    let d = c.args.desk.now in
+    let row = row_capped free_group (group_named (core_of d []) (said c.args.command.now)) (model_of d).groups (few_groups d) in
     c.members.ensures ∙ (ap (λ n. (group_at n (model_of d)).members) c.group_named.ensures ∙ ap (λ g. g.members) row)
