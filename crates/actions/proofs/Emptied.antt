@@ -8,7 +8,7 @@ module _ {X : Type 0} where
   changed_next f zero (x ∷ xs) h = refl
   changed_next f (suc k) (x ∷ xs) h = ap (λ ys. f x ∷ ys) (changed_next f k xs (omega arith))
 
-  alter_all : (f : X → X) (k : ℕ) (xs : List X) → length xs ≤ k → map f (take k xs) ++ drop k xs ≡ map f xs
+  pub alter_all : (f : X → X) (k : ℕ) (xs : List X) → length xs ≤ k → map f (take k xs) ++ drop k xs ≡ map f xs
   alter_all f zero [] h = refl
   alter_all f (suc k) [] h = refl
   alter_all f zero (x ∷ xs) h = absurd (omega arith)

@@ -1,5 +1,5 @@
--- Positions of axes are told in few bytes.
-use Rattle.std.proofs.Common.{◌≡◌, ℕ, zero, suc, ◌*◌, ◌<◌, ◌≤◌, true, List, [], ◌∷◌, map, length, get_or, take, nat_abs, arith}
+-- Positions and targets of any axis are told in few bytes.
+use Rattle.std.proofs.Common.{◌≡◌, ℕ, zero, suc, ◌*◌, ◌<◌, ◌≤◌, true, List, [], ◌∷◌, map, length, get_or, ℤ, nat_abs, arith}
 use Rattle.std.specs.List.{AllByRecursion}
 use Rattle.std.proofs.lemmas.Bool.{leb-true, and_parts}
 use Rattle.number.specs.Texts.{list_text}
@@ -12,6 +12,7 @@ use Rattle.desk.specs.Axes.{no_axis, short}
 use Rattle.desk.specs.Desks.{model_of}
 use Rattle.rules.specs.World.{core_of, no_drive_axis}
 use Rattle.rules.specs.Replies.{position_told}
+use Rattle.answers.specs.Facts.{PlacesShort}
 use Rattle.answers.proofs.Widths.{list_short}
 
 digits_at : (i : ℕ) (xs : List AxisSettings) → short xs ≡ true → (get_or xs i no_axis).digits ≤ 6
@@ -23,17 +24,21 @@ digits_few : (d : Desk) (n : ℕ) → (row_or no_axis n (model_of d).axes).digit
 digits_few d zero = omega arith
 digits_few d (suc i) = digits_at i (model_of d).axes d.digits
 
-at_index : (i : ℕ) (axes : List Axis) → AllByRecursion SoundAxis axes → nat_abs (get_or axes i no_drive_axis).position < 4294967296
-at_index i [] s = omega arith
-at_index zero (a ∷ axes) s = omega (arith, s.0.position_in, s.0.most_reach)
-at_index (suc i) (a ∷ axes) s = at_index i axes s.1
+module _ (f : Axis → ℤ) (within : (a : Axis) → SoundAxis a → nat_abs (f a) < 4294967296) (none : nat_abs (f no_drive_axis) < 4294967296) where
+  at_index : (i : ℕ) (axes : List Axis) → AllByRecursion SoundAxis axes → nat_abs (f (get_or axes i no_drive_axis)) < 4294967296
+  at_index i [] s = none
+  at_index zero (a ∷ axes) s = within a s.0
+  at_index (suc i) (a ∷ axes) s = at_index i axes s.1
 
-at_row : (n : ℕ) (axes : List Axis) → AllByRecursion SoundAxis axes → nat_abs (row_or no_drive_axis n axes).position < 4294967296
-at_row zero axes s = omega arith
-at_row (suc i) axes s = at_index i axes s
+  at_row : (n : ℕ) (axes : List Axis) → AllByRecursion SoundAxis axes → nat_abs (f (row_or no_drive_axis n axes)) < 4294967296
+  at_row zero axes s = none
+  at_row (suc i) axes s = at_index i axes s
 
-position_short_at : (d : Desk) (axes : List Axis) (n : ℕ) → Sound axes → length (position_told (core_of d axes) n) ≤ 12
-position_short_at d axes n s = position_short _ _ (digits_few d n) (at_row n axes s.each)
+pub places_short : (d : Desk) (axes : List Axis) → Sound axes → PlacesShort (core_of d axes)
+places_short d axes s = record {
+  position = λ n. position_short _ _ (digits_few d n) (at_row (λ a. a.position) (λ a t. omega (arith, t.position_in, t.most_reach)) (omega arith) n axes s.each);
+  target = λ n. position_short _ _ (digits_few d n) (at_row (λ a. a.target) (λ a t. omega (arith, t.target_in, t.most_reach)) (omega arith) n axes s.each);
+}
 
 pub places_list : (d : Desk) (axes : List Axis) (ns : List ℕ) → Sound axes → length (list_text (map (position_told (core_of d axes)) ns)) ≤ length ns * 13
-places_list d axes ns s = list_short (position_told (core_of d axes)) 12 ns (λ i. position_short_at d axes (get_or ns i 0) s)
+places_list d axes ns s = list_short (position_told (core_of d axes)) 12 ns (λ i. (places_short d axes s).position (get_or ns i 0))

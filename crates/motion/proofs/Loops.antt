@@ -43,7 +43,7 @@ range_yields s n a b f =
     s)
 
 -- no starts are left, where as many are made as there are axes or positions
-starts_none : (q : Profile) (ns : List ℕ) → starts q ns [] ≡ []
+pub starts_none : (q : Profile) (ns : List ℕ) → starts q ns [] ≡ []
 starts_none q [] = refl
 starts_none q (n ∷ ns) = refl
 
