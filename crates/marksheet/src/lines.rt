@@ -58,7 +58,7 @@ impl<'a> Iterator for Lines<'a> {
 
     ghost remaining = { λ s. at_most (length s.rest.now) };
 
-    #[tactic(auto, using(crate::proofs::Cuts::line_front, crate::proofs::Cuts::behind_front))]
+    #[tactic(auto, using(crate::proofs::Cuts::line_front, crate::proofs::Cuts::behind_stopped))]
     fn next(&mut self) -> Option<&'a [u8]> {
         if self.rest.is_empty() {
             return None;

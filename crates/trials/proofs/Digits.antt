@@ -1,6 +1,7 @@
 -- What the hex decoder answers, place by place.
 use Rattle.std.proofs.Common.{◌≡◌, ℕ, zero, suc, ◌+◌, ◌*◌, ◌/◌, ◌%◌, ◌<◌, ◌⊎◌, inl, inr, List, [], ◌∷◌, length, slice_index, zero-add, Option, Some, None, is_some, false, Result, Ok, Err, refl, sym, ap, ◌∙◌, arith}
 use Rattle.std.specs.Result.{result_unwrap_or}
+use Rattle.std.specs.Char.{is_ascii_hexdigit}
 use Rattle.hex.specs.Hex.{decode_of, decode_pairs, digit_or_error, hex_digit_value, pair_value, value_at, ◌>>=◌}
 use Rattle.hex.specs.declared.error.FromHexError.{FromHexError}
 use Rattle.hex.specs.declared.error.FromHexError.TheVariants.{OutOfMemory}
@@ -65,6 +66,10 @@ pairs_spell i (a ∷ b ∷ rest) bytes h =
 -- a text that decodes spells the bytes
 pub decoded : (text bytes : List ℕ) → decode_of text ≡ Ok bytes → Spells text bytes
 decoded text bytes h = pairs_spell 0 text bytes (sym (decode_of-even text (decode_of-ok text bytes h).0) ∙ h)
+
+-- what is no ASCII hex digit has no value
+pub no_digit : (b : ℕ) → is_ascii_hexdigit b ≡ false → hex_digit_value b ≡ None
+no_digit b h = grind (arith)
 
 not_read : (o : Option ℕ) → is_some o ≡ false → o ≡ None
 not_read (Some v) h = cc h

@@ -1,4 +1,5 @@
-ghost use Rattle.std.specs.Prelude.{◌≡◌, map, length, IfOk, MatchResult, Ok};
+ghost use Rattle.std.specs.Prelude.{◌≡◌, ◌<◌, map, length, IfOk, IfSome, MatchResult, Ok, None, slice_index};
+ghost use Rattle.hex.specs.Hex.{hex_digit_value};
 ghost use Rattle.trials.specs.Hex.{Spells, Wrong};
 ghost use Rattle.trials.specs.Script.{Says};
 
@@ -51,11 +52,25 @@ fn drive(words: &[&str]) -> Result<Bank, Fault> {
     }
 }
 
-/// The bytes that a text of hex digits spells, two digits to a byte.
+/// The place of the first byte that is no hex digit.
+#[tactic(auto, using(crate::proofs::Digits::no_digit))]
+fn first_wrong(text: &[u8]) -> Option<usize>
+    ensures { IfSome result (λ at. (at < length text.now) × (hex_digit_value (slice_index text.now at) ≡ None)) }
+{
+    text.iter().position(|b| !b.is_ascii_hexdigit())
+}
+
+/// The bytes that a text of hex digits spells, two digits to a byte. What is no digit is told before memory is asked for, which
+/// `hex::decode` would ask for first.
 #[tactic(auto, using(crate::proofs::Digits::decoded, crate::proofs::Digits::refused))]
 fn hex_bytes(heap: Global, text: &[u8]) -> Result<Vec<u8>, Fault>
     ensures { MatchResult result (λ v. Spells text.now v.items) (λ e. Wrong text.now e) }
 {
+    if text.len() % 2 == 0 {
+        if let Some(at) = first_wrong(text) {
+            return Err(Fault::NoDigit(at));
+        }
+    }
     Ok(hex::decode(heap, text)?)
 }
 
